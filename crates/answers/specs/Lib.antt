@@ -1,0 +1,4 @@
+pub mod Spelled
+pub mod Obeyed
+pub mod Stepped
+pub mod Sessions

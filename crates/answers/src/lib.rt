@@ -1,0 +1,6 @@
+//! Answers to an order sheet, one line after another.
+
+pub mod answer;
+pub mod desk;
+pub mod session;
+pub mod stage;

@@ -1,0 +1,78 @@
+//! How far a sheet has come, and what its next line is answered.
+
+ghost use mathlib.Core.Path.{_≡_};
+ghost use Rattle.std.specs.Results.{Cases};
+ghost use Rattle.sheet.specs.Left.{wordsLeft};
+ghost use Rattle.sheet.specs.Opens.{opens};
+ghost use Rattle.sheet.specs.Ranks.{ranks};
+ghost use Rattle.sheet.specs.Commands.{commands};
+ghost use Rattle.answers.specs.Spelled.{answerText};
+ghost use Rattle.answers.specs.Stepped.{Opened, Ranked, Ordered, Stepped};
+use crate::answer::Answer;
+use crate::desk::Desk;
+use opening::Shape;
+use sheet::fault::LineFault;
+use sheet::fault::SheetFault;
+use sheet::fault::SheetFromLine;
+use sheet::ranking::RankingName;
+use sheet::reader::Line;
+
+/// What the next line of a sheet is to be.
+#[derive(Clone, Copy)]
+pub enum Stage {
+    /// The sheet is at fault as a whole, which its first answer tells.
+    Unread(SheetFault),
+    /// The line that opens a trial.
+    Opening,
+    /// The line that chooses a ranking.
+    Ranking(Shape),
+    /// An order.
+    Orders(Desk),
+    /// Nothing: no further line is read.
+    Over,
+}
+
+/// Reads the opening line.
+fn opened(line: Line<'_>) -> Result<(Answer, Stage), LineFault>
+    ensures { λ r. ⌜ Opened (line .entry .number) (opens (line .entry .number) (wordsLeft (line .entry))) r ⌝ }
+{
+    let number = line.number();
+    let opening = line.opening()?;
+    match Shape::new(opening.w, opening.s, opening.n1, opening.n2) {
+        Ok(shape) => Ok((Answer::Nothing, Stage::Ranking(shape))),
+        Err(refusal) => Ok((Answer::Refused(refusal, number), Stage::Over)),
+    }
+}
+
+/// Reads the line that chooses a ranking.
+fn ranked(line: Line<'_>, shape: Shape) -> Result<(Answer, Stage), LineFault>
+    ensures { λ r. ⌜ Ranked shape (ranks (line .entry .number) (wordsLeft (line .entry))) r ⌝ }
+{
+    match line.ranking()? {
+        RankingName::Aberration => Ok((Answer::Nothing, Stage::Orders(Desk { shape, plan: None }))),
+    }
+}
+
+/// Reads an order and obeys it.
+fn ordered(line: Line<'_>, desk: Desk) -> Result<(Answer, Stage), LineFault>
+    ensures { λ r. ⌜ Ordered desk (line .entry .number) (commands (desk .shape .n1) (desk .shape .n2) (line .entry .number) (wordsLeft (line .entry))) r ⌝ }
+{
+    let number = line.number();
+    let command = line.command(desk.shape.n1, desk.shape.n2)?;
+    let (answer, after) = desk.obey(command, number);
+    Ok((answer, Stage::Orders(after)))
+}
+
+impl Stage {
+    /// Reads a line at this stage: its answer and the stage after it, or its fault.
+    pub fn read(self, line: Line<'_>) -> Result<(Answer, Stage), SheetFault>
+        ensures { λ r. ⌜ Stepped self (line .entry .number) (wordsLeft (line .entry)) r ⌝ }
+    {
+        match self {
+            Stage::Opening => Ok(opened(line)?),
+            Stage::Ranking(shape) => Ok(ranked(line, shape)?),
+            Stage::Orders(desk) => Ok(ordered(line, desk)?),
+            Stage::Unread(_) | Stage::Over => Ok((Answer::Nothing, self)),
+        }
+    }
+}

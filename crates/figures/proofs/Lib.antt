@@ -1,0 +1,4 @@
+pub mod Growth
+pub mod Rooms
+pub mod Reading
+pub mod Layers

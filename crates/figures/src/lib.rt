@@ -1,0 +1,3 @@
+//! The figures of a key, counted column by column.
+
+pub mod counts;

@@ -1,0 +1,10 @@
+pub mod Steps
+pub mod Lists
+pub mod Members
+pub mod Reach
+pub mod Columns
+pub mod Facts
+pub mod Standard
+pub mod Walking
+pub mod Judging
+pub mod Passing

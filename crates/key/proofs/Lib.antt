@@ -1,0 +1,6 @@
+pub mod Products
+pub mod Reach
+pub mod Soundness
+pub mod Filling
+pub mod Rows
+pub mod Fronts

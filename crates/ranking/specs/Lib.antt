@@ -1,0 +1,9 @@
+pub mod Verdicts
+pub mod Orders
+pub mod Aberrations
+pub mod Fractions
+pub mod Weights
+pub mod Penalties
+pub mod Piles
+pub mod Chosen
+pub mod Samples

@@ -1,0 +1,11 @@
+pub mod Cuts
+pub mod Left
+pub mod Faults
+pub mod Forms
+pub mod Numbers
+pub mod Letters
+pub mod Asks
+pub mod Tokens
+pub mod Opens
+pub mod Ranks
+pub mod Commands

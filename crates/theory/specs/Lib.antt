@@ -1,0 +1,12 @@
+pub mod Refusals
+pub mod Words
+pub mod Keys
+pub mod Plots
+pub mod Chains
+pub mod Tallies
+pub mod Tables
+pub mod Twins
+pub mod Signs
+pub mod Laws
+pub mod Wishes
+pub mod Alikes
