@@ -19,9 +19,9 @@ use Rattle.ranking.specs.Orders.{by-score}
 use Rattle.ranking.specs.declared.verdict.Verdict.{Verdict}
 use Rattle.finding.specs.Best.{Finding}
 use Rattle.finding.specs.Listing.{StandardIn}
-use Rattle.sheet.specs.declared.command.Command.{Command}
-use Rattle.sheet.specs.declared.command.Command.the-variants.{Find, Layout, Chain}
-use Rattle.answers.specs.Spelled.{planText, effectsText, refusedText}
+use Rattle.lines.specs.declared.command.Command.{Command}
+use Rattle.lines.specs.declared.command.Command.the-variants.{Find, Layout, Chain}
+use Rattle.spelling.specs.Spelled.{planText, effectsText, refusedText}
 use Rattle.answers.specs.declared.desk.Desk.{Desk}
 
 -- what aberration says of two keys of a shape, its own first

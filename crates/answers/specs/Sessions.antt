@@ -1,7 +1,7 @@
 -- What a session answers, line by line. Assumes nothing.
 use mathlib.Core.Path.{_≡_, refl}
 use mathlib.Core.List.{List, [], _∷_}
-use Prim.Native.Nat.{ℕ, _≤_, _<_}
+use Prim.Native.Nat.{ℕ, _<_}
 use lib.ListN.{length}
 use Rattle.std.specs.declared.result.Result.{Result}
 use Rattle.std.specs.declared.result.Result.the-variants.{Ok, Err}
@@ -11,11 +11,10 @@ use Rattle.sheet.specs.Cuts.{words, placed}
 use Rattle.sheet.specs.Forms.{formCheck}
 use Rattle.sheet.specs.Left.{linesLeft}
 use Rattle.sheet.specs.declared.fault.SheetFault.{SheetFault}
-use Rattle.text.specs.Texts.{put}
-use Rattle.answers.specs.Spelled.{answerText}
+use Rattle.spelling.specs.Spelled.{Put}
 use Rattle.answers.specs.Stepped.{Outcome, Stepped}
-use Rattle.answers.specs.declared.answer.Answer.{Answer}
-use Rattle.answers.specs.declared.answer.Answer.the-variants.{Nothing, Fault}
+use Rattle.spelling.specs.declared.answer.Answer.{Answer}
+use Rattle.spelling.specs.declared.answer.Answer.the-variants.{Nothing, Fault}
 use Rattle.answers.specs.declared.session.Session.{Session}
 use Rattle.answers.specs.declared.stage.Stage.{Stage}
 use Rattle.answers.specs.declared.stage.Stage.the-variants as at
@@ -56,9 +55,7 @@ Taken before answer after = TakenAt (before .stage) before answer after
 -- of the next answer at the buffer's start, leaves the places beyond as they were, and tells its length.
 abbrev pub Answered : Session → List ℕ → Result ℕ Refusal → Session → List ℕ → Type 0
 Answered before out (Err why) after out′ = (why ≡ ShortBuffer) × (length out < 1024) × (after ≡ before) × (out′ ≡ out)
-Answered before out (Ok size) after out′ =
-    (1024 ≤ length out)
-    × ((answer : Answer) × Taken before answer after × (size ≡ length (answerText answer)) × (out′ ≡ put out 0 (answerText answer)))
+Answered before out (Ok size) after out′ = (answer : Answer) × Taken before answer after × Put answer out (Ok size) out′
 
 example-empty : firstStage [] ≡ at.Opening
 example-empty = refl

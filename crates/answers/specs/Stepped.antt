@@ -12,20 +12,20 @@ use Rattle.std.specs.declared.result.Result.the-variants.{Ok, Err}
 use Rattle.theory.specs.declared.refusal.Refusal.{Refusal}
 use Rattle.opening.specs.declared.Shape.{Shape}
 use Rattle.opening.specs.Shapes as shapes
-use Rattle.sheet.specs.Commands.{commands}
-use Rattle.sheet.specs.Opens.{opens}
-use Rattle.sheet.specs.Ranks.{ranks}
-use Rattle.sheet.specs.declared.command.Command.{Command}
+use Rattle.lines.specs.Commands.{commands}
+use Rattle.lines.specs.Opens.{opens}
+use Rattle.lines.specs.Ranks.{ranks}
+use Rattle.lines.specs.declared.command.Command.{Command}
 use Rattle.sheet.specs.declared.fault.LineFault.{LineFault}
 use Rattle.sheet.specs.declared.fault.SheetFault.{SheetFault}
 use Rattle.sheet.specs.declared.fault.SheetFault.the-variants as of
-use Rattle.sheet.specs.declared.opening.Opening.{Opening}
-use Rattle.sheet.specs.declared.ranking.RankingName.{RankingName}
-use Rattle.sheet.specs.declared.ranking.RankingName.the-variants.{Aberration}
+use Rattle.lines.specs.declared.opening.Opening.{Opening}
+use Rattle.lines.specs.declared.ranking.RankingName.{RankingName}
+use Rattle.lines.specs.declared.ranking.RankingName.the-variants.{Aberration}
 use Rattle.answers.specs.Obeyed.{Obeyed}
-use Rattle.answers.specs.Spelled.{answerText}
-use Rattle.answers.specs.declared.answer.Answer.{Answer}
-use Rattle.answers.specs.declared.answer.Answer.the-variants.{Nothing, Refused}
+use Rattle.spelling.specs.Spelled.{answerText}
+use Rattle.spelling.specs.declared.answer.Answer.{Answer}
+use Rattle.spelling.specs.declared.answer.Answer.the-variants.{Nothing, Refused}
 use Rattle.answers.specs.declared.desk.Desk.{Desk}
 use Rattle.answers.specs.declared.stage.Stage.{Stage}
 use Rattle.answers.specs.declared.stage.Stage.the-variants as at

@@ -1,16 +1,16 @@
 //! An opened trial with its standing plan, and what its orders are answered.
 
 ghost use mathlib.Core.Path.{_≡_};
-ghost use Rattle.answers.specs.Spelled.{answerText};
+ghost use Rattle.spelling.specs.Spelled.{answerText};
 ghost use Rattle.answers.specs.Obeyed.{Obeyed, chainTold};
-use crate::answer::Answer;
-use crate::answer::Effects;
+use finding::best::first_best;
 use key::Key;
+use lines::command::Command;
 use opening::Shape;
 use ranking::aberration::Aberration;
 use ranking::aberration::AberrationRanking;
-use finding::best::first_best;
-use sheet::command::Command;
+use spelling::answer::Answer;
+use spelling::answer::Effects;
 use theory::refusal::Refusal;
 
 /// A trial that was opened, and the plan that was found last.

@@ -1,6 +1,5 @@
 //! Answers to an order sheet, one line after another.
 
-pub mod answer;
 pub mod desk;
 pub mod session;
 pub mod stage;

@@ -3,19 +3,22 @@
 ghost use mathlib.Core.Path.{_≡_};
 ghost use Rattle.std.specs.Results.{Cases};
 ghost use Rattle.sheet.specs.Left.{wordsLeft};
-ghost use Rattle.sheet.specs.Opens.{opens};
-ghost use Rattle.sheet.specs.Ranks.{ranks};
-ghost use Rattle.sheet.specs.Commands.{commands};
-ghost use Rattle.answers.specs.Spelled.{answerText};
+ghost use Rattle.lines.specs.Opens.{opens};
+ghost use Rattle.lines.specs.Ranks.{ranks};
+ghost use Rattle.lines.specs.Commands.{commands};
+ghost use Rattle.spelling.specs.Spelled.{answerText};
 ghost use Rattle.answers.specs.Stepped.{Opened, Ranked, Ordered, Stepped};
-use crate::answer::Answer;
 use crate::desk::Desk;
+use lines::command::read_command;
+use lines::opening::read_opening;
+use lines::ranking::RankingName;
+use lines::ranking::read_ranking;
 use opening::Shape;
 use sheet::fault::LineFault;
 use sheet::fault::SheetFault;
 use sheet::fault::SheetFromLine;
-use sheet::ranking::RankingName;
 use sheet::reader::Line;
+use spelling::answer::Answer;
 
 /// What the next line of a sheet is to be.
 #[derive(Clone, Copy)]
@@ -37,7 +40,7 @@ fn opened(line: Line<'_>) -> Result<(Answer, Stage), LineFault>
     ensures { λ r. ⌜ Opened (line .entry .number) (opens (line .entry .number) (wordsLeft (line .entry))) r ⌝ }
 {
     let number = line.number();
-    let opening = line.opening()?;
+    let opening = read_opening(line)?;
     match Shape::new(opening.w, opening.s, opening.n1, opening.n2) {
         Ok(shape) => Ok((Answer::Nothing, Stage::Ranking(shape))),
         Err(refusal) => Ok((Answer::Refused(refusal, number), Stage::Over)),
@@ -48,7 +51,7 @@ fn opened(line: Line<'_>) -> Result<(Answer, Stage), LineFault>
 fn ranked(line: Line<'_>, shape: Shape) -> Result<(Answer, Stage), LineFault>
     ensures { λ r. ⌜ Ranked shape (ranks (line .entry .number) (wordsLeft (line .entry))) r ⌝ }
 {
-    match line.ranking()? {
+    match read_ranking(line)? {
         RankingName::Aberration => Ok((Answer::Nothing, Stage::Orders(Desk { shape, plan: None }))),
     }
 }
@@ -58,7 +61,7 @@ fn ordered(line: Line<'_>, desk: Desk) -> Result<(Answer, Stage), LineFault>
     ensures { λ r. ⌜ Ordered desk (line .entry .number) (commands (desk .shape .n1) (desk .shape .n2) (line .entry .number) (wordsLeft (line .entry))) r ⌝ }
 {
     let number = line.number();
-    let command = line.command(desk.shape.n1, desk.shape.n2)?;
+    let command = read_command(line, desk.shape.n1, desk.shape.n2)?;
     let (answer, after) = desk.obey(command, number);
     Ok((answer, Stage::Orders(after)))
 }

@@ -6,6 +6,3 @@ pub mod Numbers
 pub mod Letters
 pub mod Asks
 pub mod Tokens
-pub mod Opens
-pub mod Ranks
-pub mod Commands

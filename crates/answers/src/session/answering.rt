@@ -6,13 +6,13 @@ ghost use lib.ListN.{length};
 ghost use Rattle.std.specs.Vec.{made};
 ghost use Rattle.sheet.specs.Cuts.{lines, numbered};
 ghost use Rattle.sheet.specs.Left.{linesLeft};
-ghost use Rattle.answers.specs.Spelled.{answerText};
+ghost use Rattle.spelling.specs.Spelled.{answerText};
 ghost use Rattle.answers.specs.Sessions.{firstStage, Taken, Answered};
 use super::Session;
-use crate::answer::Answer;
 use crate::stage::Stage;
 use sheet::form::well_formed;
 use sheet::reader::Reader;
+use spelling::answer::Answer;
 use theory::refusal::Refusal;
 
 impl<'a> Session<'a> {
@@ -69,6 +69,6 @@ impl<'a> Session<'a> {
         if out.len() < 1024 {
             return Err(Refusal::ShortBuffer);
         }
-        Ok(self.take().put(out))
+        self.take().put(out)
     }
 }

@@ -5,7 +5,7 @@ use lib.ListN.{take}
 use Rattle.std.specs.declared.result.Result.{Result}
 use Rattle.theory.specs.declared.refusal.Refusal.{Refusal}
 use Rattle.opening.specs.declared.Shape.{Shape}
-use Rattle.answers.specs.Spelled.{effectsText}
+use Rattle.spelling.specs.Spelled.{effectsText}
 use Rattle.answers.specs.Obeyed.{chainBy}
 use Rattle.answers.proofs.Chains.{chain-size, chain-taken}
 use Rattle.answers.proofs.desk.chain_of.Needs as need

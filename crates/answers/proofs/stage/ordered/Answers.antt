@@ -2,10 +2,10 @@ use mathlib.Core.Path.{_≡_, refl, subst, ap, _∙_}
 use Prim.Native.Nat.{ℕ}
 use Rattle.std.specs.declared.result.Result.{Result}
 use Rattle.std.specs.declared.result.Result.the-variants.{Ok}
-use Rattle.sheet.specs.declared.command.Command.{Command}
+use Rattle.lines.specs.declared.command.Command.{Command}
 use Rattle.sheet.specs.declared.fault.LineFault.{LineFault}
 use Rattle.answers.specs.Obeyed.{Obeyed}
-use Rattle.answers.specs.Spelled.{answerText}
+use Rattle.spelling.specs.Spelled.{answerText}
 use Rattle.answers.specs.Stepped.{Ordered, Outcome}
 use Rattle.answers.specs.declared.stage.Stage.the-variants as at
 use Rattle.answers.proofs.stage.ordered.Needs as need

@@ -1,0 +1,3 @@
+//! How answers are spelled.
+
+pub mod answer;
