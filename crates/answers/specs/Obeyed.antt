@@ -1,6 +1,6 @@
 -- What an order is answered, and what it leaves. Assumes nothing.
 use mathlib.Core.Path.{_≡_}
-use mathlib.Core.List.{List}
+use mathlib.Core.List.{List, []}
 use Prim.Native.Nat.{ℕ}
 use Rattle.std.specs.declared.option.Option.{Option}
 use Rattle.std.specs.declared.option.Option.the-variants.{None, Some}
@@ -9,16 +9,12 @@ use Rattle.std.specs.declared.result.Result.the-variants.{Ok, Err}
 use Rattle.theory.specs.declared.refusal.Refusal.{Refusal}
 use Rattle.theory.specs.declared.refusal.Refusal.the-variants.{NoKey, NoPlan}
 use Rattle.theory.specs.Chains.{chain}
-use Rattle.theory.specs.Tallies.{tally}
-use Rattle.opening.specs.Shapes.{layersOf}
 use Rattle.opening.specs.declared.Shape.{Shape}
 use Rattle.key.specs.Questions.{columnsOf, layoutOf, chainAnswer}
 use Rattle.key.specs.declared.Key.{Key}
 use Rattle.ranking.specs.Aberrations.{shortest, fewest}
-use Rattle.ranking.specs.Orders.{by-score}
 use Rattle.ranking.specs.declared.verdict.Verdict.{Verdict}
-use Rattle.finding.specs.Best.{Finding}
-use Rattle.finding.specs.Listing.{StandardIn}
+use Rattle.finding.specs.Best.{by-tally, Finding, FindingSound, Wished}
 use Rattle.lines.specs.declared.command.Command.{Command}
 use Rattle.lines.specs.declared.command.Command.the-variants.{Find, Layout, Chain}
 use Rattle.spelling.specs.Spelled.{planText, effectsText, refusedText}
@@ -26,7 +22,11 @@ use Rattle.answers.specs.declared.desk.Desk.{Desk}
 
 -- what aberration says of two keys of a shape, its own first
 abbrev pub byAberration : Shape → List ℕ → List ℕ → Verdict
-byAberration shape = by-score (λ key. shortest (tally (layersOf shape) key)) fewest
+byAberration shape = by-tally shape shortest fewest
+
+-- What finding answers: the first best of all standard keys, which is a best one of all sound keys. No wish stands.
+abbrev pub Found : Shape → Option Key → Type 0
+Found shape found = Finding columnsOf (Wished shape []) (byAberration shape) found × FindingSound columnsOf shape [] (byAberration shape) found
 
 -- the text of a found plan, or of the refusal
 abbrev pub planTold : Option Key → ℕ → List ℕ
@@ -51,11 +51,11 @@ abbrev pub planAfter : Option Key → Option Key → Option Key
 planAfter None before = before
 planAfter (Some key) before = Some key
 
--- An order at a desk, its line, the text that is printed and the desk afterwards. Finding answers by the first best of all
--- standard keys of the shape, and it then is the standing plan; the questions change nothing.
+-- An order at a desk, its line, the text that is printed and the desk afterwards. A key that is found is the standing plan
+-- from then on; the questions change nothing.
 abbrev pub Obeyed : Desk → Command → ℕ → List ℕ → Desk → Type 0
 Obeyed desk Find line text after =
-    (found : Option Key) × Finding columnsOf (StandardIn (desk .shape)) (byAberration (desk .shape)) found
+    (found : Option Key) × Found (desk .shape) found
     × (text ≡ planTold found line) × (after ≡ record { shape = desk .shape; plan = planAfter found (desk .plan) })
 Obeyed desk Layout line text after = (text ≡ ofPlan layoutOf (desk .plan) line) × (after ≡ desk)
 Obeyed desk (Chain e) line text after = (text ≡ ofPlan (λ key. chainTold key e line) (desk .plan) line) × (after ≡ desk)

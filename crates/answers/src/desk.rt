@@ -2,7 +2,7 @@
 
 ghost use mathlib.Core.Path.{_≡_};
 ghost use Rattle.spelling.specs.Spelled.{answerText};
-ghost use Rattle.answers.specs.Obeyed.{Obeyed, chainTold};
+ghost use Rattle.answers.specs.Obeyed.{Found, Obeyed, chainTold};
 use finding::best::first_best;
 use key::Key;
 use lines::command::Command;
@@ -12,12 +12,20 @@ use ranking::aberration::AberrationRanking;
 use spelling::answer::Answer;
 use spelling::answer::Effects;
 use theory::refusal::Refusal;
+use wishes::standing::Standing;
 
 /// A trial that was opened, and the plan that was found last.
 #[derive(Clone, Copy)]
 pub struct Desk {
     pub shape: Shape,
     pub plan: Option<Key>,
+}
+
+/// The plan for a trial, where none is asked for more than being best.
+fn find(shape: Shape) -> Option<Key>
+    ensures { λ r. ⌜ Found shape r ⌝ }
+{
+    first_best(&Aberration, &Standing::new(shape))
 }
 
 /// The chain of an effect in a plan.
@@ -41,7 +49,7 @@ impl Desk {
         ensures { λ r. ⌜ Obeyed self command line (answerText (r .0)) (r .1) ⌝ }
     {
         match (command, self.plan) {
-            (Command::Find, _) => match first_best(&Aberration, self.shape) {
+            (Command::Find, _) => match find(self.shape) {
                 Some(key) => (
                     Answer::Plan(key),
                     Desk {

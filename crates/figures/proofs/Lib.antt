@@ -1,3 +1,4 @@
+pub mod Products
 pub mod Growth
 pub mod Rooms
 pub mod Reading

@@ -1,13 +1,14 @@
 -- What the entries of a table of counts say.
 use mathlib.Core.Path.{_≡_, refl, sym, ap, ap₂, _∙_, subst}
 use mathlib.Core.Bool.{Bool, true, false, cond, _&&_}
-use mathlib.Core.Logic.{_≢_}
+use mathlib.Core.Logic.{_≢_, _⊎_, inl, inr}
 use mathlib.Core.List.{List, [], _∷_, _++_}
 use Prim.Native.Nat.{ℕ, zero, suc, _+_, _-_, _*_, _/_, _^_, _≤_, _<_}
 use native.Mathlib.Nat.{mul-le-mul}
 use native.Mathlib.Numerals.{add-one}
 use native.Mathlib.Omega.{arith}
 use lib.Bits.{bitXor}
+use lib.Count.{ones, ones-le}
 use lib.Dec.{eqb, ltb}
 use lib.ListN.{length, getD, take}
 use lib.Pow.{pow-mono, pow-pos}
@@ -15,17 +16,18 @@ use Rattle.std.specs.declared.option.Option.{Option}
 use Rattle.std.specs.declared.option.Option.the-variants.{None, Some}
 use Rattle.std.proofs.shelf.Lists.{length-push, length-take-le}
 use borrow.Author.Tests.{lt-ltb}
-use Rattle.std.proofs.shelf.Tests.{eq-eqb, ne-eqb, and-from}
-use Rattle.theory.specs.Words.{total, stratum}
+use Rattle.std.proofs.shelf.Tests.{cases-eq, eq-eqb, ne-eqb, eqb-true, and-parts, and-from}
+use Rattle.theory.specs.Words.{total, alias, stratum}
 use Rattle.theory.specs.Keys.{Words}
 use Rattle.theory.specs.Tallies.{members, sumTo, free, firstLength}
-use Rattle.theory.proofs.Sounds.{words-push}
+use Rattle.theory.proofs.Defining.{count-some}
+use Rattle.theory.proofs.Sounds.{alias-word, words-push}
 use Rattle.theory.proofs.Sums.{sum-le, sum-mono, term-le, sum-window}
 use Rattle.theory.proofs.Tables.{members-push, members-le, pairs-le}
 use Rattle.opening.specs.Shapes.{layersOf, unitsOf}
 use Rattle.figures.specs.Counted.{columnsIn, roomFor, unmixed, unmixedSquare}
 use Rattle.figures.specs.declared.counts.Counts.{Counts}
-use Rattle.figures.proofs.Rooms.{room-few, room-word}
+use Rattle.figures.proofs.Rooms.{room-few, room-word, word-small}
 
 pub placed-length : (counts : Counts) → length (columnsIn counts) ≡ counts .placed
 placed-length counts = length-take-le (counts .placed) (counts .columns) (omega (arith, counts .few, counts .long))
@@ -33,6 +35,24 @@ placed-length counts = length-take-le (counts .placed) (counts .columns) (omega 
 pub members-small : (counts : Counts) (j v : ℕ) → members (columnsIn counts) j v ≤ 1024
 members-small counts j v =
     omega (arith, members-le (columnsIn counts) j v, pow-mono {i = length (columnsIn counts)} {j = 10} (omega (arith, placed-length counts, counts .few)))
+
+-- no effect has more than ten factors, and no alias passes 31
+pub members-none : (counts : Counts) (j v : ℕ) → (32 ≤ v) ⊎ (11 ≤ j) → members (columnsIn counts) j v ≡ 0
+members-none counts j v beyond = go (cases-eq (members cs j v) 0)
+  where
+    cs : List ℕ
+    cs = columnsIn counts
+
+    none : (e : ℕ) → e < 2 ^ length cs → ones e ≡ j → alias cs e ≡ v → (32 ≤ v) ⊎ (11 ≤ j) → ⊥
+    none e h long at (inl l) = omega (arith, word-small (counts .shape) (alias cs e) (2 ^ unitsOf (counts .shape)) (alias-word (layersOf (counts .shape)) cs (counts .words) e) (omega arith))
+    none e h long at (inr l) = omega (arith, ones-le (length cs) e h, placed-length counts, counts .few)
+
+    go : (members cs j v ≡ 0) ⊎ (members cs j v ≡ 0 → ⊥) → members cs j v ≡ 0
+    go (inl z) = z
+    go (inr some) =
+        let k = count-some (λ e. eqb (ones e) j && eqb (alias cs e) v) (2 ^ length cs) some in
+        let both = and-parts (eqb (ones (k .0)) j) (eqb (alias cs (k .0)) v) (k .2) in
+        absurd (none (k .0) (k .1) (eqb-true (ones (k .0)) j (both .0)) (eqb-true (alias cs (k .0)) v (both .1)) beyond)
 
 module _ (counts : Counts) (c : ℕ) (room : roomFor counts c ≡ true) where
   abbrev more : List ℕ

@@ -8,3 +8,4 @@ pub mod Standard
 pub mod Walking
 pub mod Judging
 pub mod Passing
+pub mod Soundest

@@ -1,3 +1,4 @@
 pub mod Walks
 pub mod Listing
 pub mod Best
+pub mod Leading

@@ -1,4 +1,3 @@
-pub mod Products
 pub mod Reach
 pub mod Soundness
 pub mod Filling

@@ -3,27 +3,13 @@
 ghost use mathlib.Core.Path.{_≡_};
 ghost use Prim.Native.Nat.{ℕ};
 ghost use lib.ListN.{length};
-ghost use Rattle.theory.specs.Words.{alias, sign};
+ghost use Rattle.theory.specs.Words.{sign};
 ghost use Rattle.key.specs.Questions.{columnsOf, wordOf, aliasAnswer, signAnswer, SignLaws, keyAnswer, filled};
 use super::Key;
+use figures::alias::product;
 use opening::Shape;
 use theory::refusal::Refusal;
 use theory::sign::Sign;
-
-/// The product of the columns of the effect's factors.
-fn product(columns: &[u8], effect: u16) -> u8
-    ensures { λ r. ⌜ r ≡ alias (now (columns .entry)) effect ⌝ }
-{
-    let mut word = 0;
-    let mut rest = effect;
-    for column in columns {
-        if rest % 2 == 1 {
-            word ^= *column;
-        }
-        rest /= 2;
-    }
-    word
-}
 
 /// The sign in a run of every effect with this alias.
 pub(super) fn sign_of(word: u8, run: u8) -> Sign

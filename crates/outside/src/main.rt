@@ -10,6 +10,7 @@ use opening::Shape;
 use ranking::aberration::Aberration;
 use ranking::aberration::AberrationRanking;
 use std::io;
+use wishes::standing::Standing;
 
 /// Prints the columns of a key with three of its figures.
 fn print_key(rt: &LibcRuntime, name: &str, found: Option<Key>) -> io::Result<()> {
@@ -34,8 +35,9 @@ fn compare(rt: &LibcRuntime, w: u16, s: u16, n1: u16, n2: u16) -> io::Result<()>
     println!(rt, "open {w} {s} {n1} {n2}")?;
     match Shape::new(w, s, n1, n2) {
         Ok(shape) => {
-            print_key(rt, "aberration", first_best(&Aberration, shape))?;
-            print_key(rt, "most free", first_best(&MostFree, shape))
+            let unwished = Standing::new(shape);
+            print_key(rt, "aberration", first_best(&Aberration, &unwished))?;
+            print_key(rt, "most free", first_best(&MostFree, &unwished))
         }
         Err(refusal) => {
             let number = refusal.number();

@@ -66,7 +66,7 @@ defining-fact ws ts cs key = (
         (m .0, (λ z. omega (arith, later cs e h)), m .1)
 
 -- ---- counts that are 0, and others
-count-none : (p : ℕ → Bool) (n : ℕ) → count p n ≡ 0 → (e : ℕ) → e < n → p e ≡ true → ⊥
+pub count-none : (p : ℕ → Bool) (n : ℕ) → count p n ≡ 0 → (e : ℕ) → e < n → p e ≡ true → ⊥
 count-none p zero z e h t = omega arith
 count-none p (suc n) z e h t = go (cases-eq e n) (λ l. count-none p n (omega arith) e l t)
   where
@@ -74,7 +74,7 @@ count-none p (suc n) z e h t = go (cases-eq e n) (λ l. count-none p n (omega ar
     go (inl s) rec = omega (arith, ap {B = ℕ} (λ (b : Bool). cond b 1 0) (sym (ap p s) ∙ t))
     go (inr d) rec = rec (omega arith)
 
-count-some : (p : ℕ → Bool) (n : ℕ) → count p n ≢ 0 → (e : ℕ) × (e < n) × (p e ≡ true)
+pub count-some : (p : ℕ → Bool) (n : ℕ) → count p n ≢ 0 → (e : ℕ) × (e < n) × (p e ≡ true)
 count-some p zero z = absurd (z refl)
 count-some p (suc n) z = go (cases-bool (p n)) (cases-eq (count p n) 0) (count-some p n)
   where
@@ -84,7 +84,7 @@ count-some p (suc n) z = go (cases-bool (p n)) (cases-eq (count p n) 0) (count-s
     go (inr f) (inr d) rec = let k = rec d in (k .0, omega (arith, k .1), k .2)
 
 -- ---- lengths
-ones-none : ones 0 ≡ 0
+pub ones-none : ones 0 ≡ 0
 unfolding ones
 ones-none = refl
 

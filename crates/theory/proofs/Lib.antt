@@ -22,3 +22,4 @@ pub mod Tables
 pub mod Views
 pub mod Alikes
 pub mod Defining
+pub mod Fronts

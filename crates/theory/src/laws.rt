@@ -5,6 +5,7 @@ ghost use Rattle.theory.specs.Laws.{Chain-fact, Defining-fact, Resolution-fact
 ghost use Rattle.theory.specs.Plots.{Two-layers};
 ghost use Rattle.theory.specs.Tables.{Column-fact, Words-fact};
 ghost use Rattle.theory.specs.Twins.{Twin-fact};
+ghost use Rattle.theory.specs.Wishes.{Formed-fact, Front-fact};
 
 /// Every sound key has exactly one standard twin.
 pub fn one_standard_twin() -> u8
@@ -57,6 +58,21 @@ pub fn signs_agree_or_halve() -> u8
 pub fn counts_grow_by_columns() -> u8
     ensures columns { λ _. ⌜ Column-fact ⌝ }
     ensures words { λ _. ⌜ Words-fact ⌝ }
+{
+    0
+}
+
+/// The test of whether a wish is formed tells just that.
+pub fn formed_is_tested() -> u8
+    ensures { λ _. ⌜ Formed-fact ⌝ }
+{
+    0
+}
+
+/// A wish of the first factors that their columns do not meet is met by no key that begins with
+/// these.
+pub fn first_columns_decide() -> u8
+    ensures { λ _. ⌜ Front-fact ⌝ }
 {
     0
 }

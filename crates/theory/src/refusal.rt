@@ -18,6 +18,14 @@ pub enum Refusal {
     FactorCount,
     /// The weight is not a fraction a/b with b from 1 to 1000 and a from 0 to b.
     WeightLimits,
+    /// There is no such kind of wish.
+    WishKind,
+    /// The numbers of the wish are not as its kind asks.
+    WishForm,
+    /// The wish stands already.
+    WishStands,
+    /// Twelve wishes stand.
+    WishesFull,
     /// No sound key meets what is asked.
     NoKey,
     /// No plan stands.
@@ -42,6 +50,10 @@ impl Refusal {
             Refusal::SubplotFactors => 4,
             Refusal::FactorCount => 5,
             Refusal::WeightLimits => 6,
+            Refusal::WishKind => 11,
+            Refusal::WishForm => 12,
+            Refusal::WishStands => 13,
+            Refusal::WishesFull => 14,
             Refusal::NoKey => 21,
             Refusal::NoPlan => 22,
             Refusal::NoRun => 23,

@@ -5,10 +5,12 @@ ghost use mathlib.Core.Bool.{cond, true};
 ghost use mathlib.Core.List.{[], _∷_, _++_};
 ghost use Prim.Native.Nat.{_+_, _^_, _≤_, _<_};
 ghost use Rattle.std.specs.declared.option.Option.the-variants.{None, Some};
+ghost use Rattle.theory.specs.Words.{alias};
 ghost use Rattle.theory.specs.Tallies.{members, sumTo, tally, resolution};
 ghost use Rattle.opening.specs.Shapes.{layersOf, unitsOf};
 ghost use Rattle.figures.specs.Counted.{columnsIn, roomFor, unmixed, unmixedSquare};
 use super::Counts;
+use crate::alias::product;
 use opening::Shape;
 use theory::tally::Tally;
 
@@ -27,7 +29,24 @@ impl Counts {
         &self.columns[0..self.placed]
     }
 
+    /// The alias of an effect under the columns.
+    pub fn alias(&self, effect: u16) -> u8
+        ensures { λ r. ⌜ r ≡ alias (columnsIn (now (self .entry))) effect ⌝ }
+    {
+        product(self.columns(), effect)
+    }
+
     /// How many effects of this length have this word as their alias.
+    pub fn count(&self, word: u8, length: u8) -> u16
+        ensures { λ r. ⌜ r ≡ members (columnsIn (now (self .entry))) length word ⌝ }
+    {
+        if word >= 32 || length >= 11 {
+            return 0;
+        }
+        self.at(word, usize::from(length))
+    }
+
+    /// The same, of a word and a length that the table has.
     fn at(&self, word: u8, length: usize) -> u16
         requires word { ⌜ word < 32 ⌝ }
         requires length { ⌜ length < 11 ⌝ }

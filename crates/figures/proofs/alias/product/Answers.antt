@@ -3,9 +3,9 @@ use Prim.Native.Nat.{ℕ, _+_, _/_}
 use lib.Bits.{bitXor}
 use lib.ListN.{drop}
 use Rattle.theory.specs.Words.{alias}
-use Rattle.key.proofs.Products.{step-in, step-out, step-all}
-use Rattle.key.proofs.asking.product.Needs as need
-use Rattle.key.proofs.asking.product.Needs.{then-rest-eq1, else-rest-eq1}
+use Rattle.figures.proofs.Products.{step-in, step-out, step-all}
+use Rattle.figures.proofs.alias.product.Needs as need
+use Rattle.figures.proofs.alias.product.Needs.{then-rest-eq1, else-rest-eq1}
 
 pub loop-column-again : need.loop-column-again
 loop-column-again c =

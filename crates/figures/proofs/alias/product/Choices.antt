@@ -2,7 +2,7 @@ use mathlib.Core.Path.{_≡_}
 use lib.Bits.{bitXor}
 use lib.ListN.{drop}
 use Rattle.theory.specs.Words.{alias}
-use Rattle.key.proofs.asking.product.Given as given
+use Rattle.figures.proofs.alias.product.Given as given
 
 -- the columns left, at what is left of the effect, give the rest of the alias
 abbrev pub Inv-loop-column : given.InvT-loop-column

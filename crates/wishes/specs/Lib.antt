@@ -1,0 +1,4 @@
+pub mod Forms
+pub mod Tests
+pub mod Lists
+pub mod Standings
