@@ -22,7 +22,9 @@ use Rattle.sheet.specs.declared.fault.SheetFault.the-variants as of
 use Rattle.lines.specs.declared.opening.Opening.{Opening}
 use Rattle.lines.specs.declared.ranking.RankingName.{RankingName}
 use Rattle.lines.specs.declared.ranking.RankingName.the-variants.{Aberration}
-use Rattle.answers.specs.Obeyed.{Obeyed}
+use Rattle.ranking.specs.Aberrations.{shortest, fewest}
+use Rattle.planner.specs.Openings.{Begins}
+use Rattle.answers.specs.Obeyed.{Obeyed, shapeOf}
 use Rattle.spelling.specs.Spelled.{answerText}
 use Rattle.spelling.specs.declared.answer.Answer.{Answer}
 use Rattle.spelling.specs.declared.answer.Answer.the-variants.{Nothing, Refused}
@@ -45,10 +47,11 @@ Opened line (Err fault) r = r ≡ Err fault
 Opened line (Ok o) r =
     (made : Result Shape Refusal) × shapes.Opening (o .w) (o .s) (o .n1) (o .n2) made × (r ≡ Ok (openedBy line made))
 
--- the line that chooses a ranking, as it was read: nothing is printed, and orders are taken with no plan
+-- the line that chooses a ranking, as it was read: nothing is printed, and orders go to a planner that was opened so
 abbrev pub Ranked : Shape → Result RankingName LineFault → Outcome LineFault → Type 0
 Ranked shape (Err fault) r = r ≡ Err fault
-Ranked shape (Ok Aberration) r = r ≡ Ok (Nothing, at.Orders (record { shape = shape; plan = None }))
+Ranked shape (Ok Aberration) r =
+    (desk : Desk) × Begins (λ _. shortest) (λ _. fewest) shape (desk .planner .ranking) (desk .planner) × (r ≡ Ok (Nothing, at.Orders desk))
 
 -- an order, as it was read
 abbrev pub Ordered : Desk → ℕ → Result Command LineFault → Outcome LineFault → Type 0
@@ -70,6 +73,6 @@ pub record Lifted (Read : Outcome LineFault → Type 0) (r : Outcome SheetFault)
 abbrev pub Stepped : Stage → ℕ → List (ℕ × List ℕ) → Outcome SheetFault → Type 0
 Stepped at.Opening line words r = Lifted (Opened line (opens line words)) r
 Stepped (at.Ranking shape) line words r = Lifted (Ranked shape (ranks line words)) r
-Stepped (at.Orders desk) line words r = Lifted (Ordered desk line (commands (desk .shape .n1) (desk .shape .n2) line words)) r
+Stepped (at.Orders desk) line words r = Lifted (Ordered desk line (commands (shapeOf desk .n1) (shapeOf desk .n2) line words)) r
 Stepped (at.Unread fault) line words r = r ≡ Ok (Nothing, at.Unread fault)
 Stepped at.Over line words r = r ≡ Ok (Nothing, at.Over)

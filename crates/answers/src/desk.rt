@@ -1,32 +1,23 @@
-//! An opened trial with its standing plan, and what its orders are answered.
+//! An opened trial at its planner, and what its orders are answered.
 
 ghost use mathlib.Core.Path.{_≡_};
 ghost use Rattle.spelling.specs.Spelled.{answerText};
-ghost use Rattle.answers.specs.Obeyed.{Found, Obeyed, chainTold};
-use finding::best::first_best;
+ghost use Rattle.answers.specs.Obeyed.{Obeyed, planTold, chainTold};
 use key::Key;
 use lines::command::Command;
-use opening::Shape;
+use planner::planner::Planner;
 use ranking::aberration::Aberration;
 use ranking::aberration::AberrationRanking;
 use spelling::answer::Answer;
 use spelling::answer::Effects;
 use theory::refusal::Refusal;
-use wishes::standing::Standing;
 
-/// A trial that was opened, and the plan that was found last.
-#[derive(Clone, Copy)]
+/// The planner that a sheet's orders go to.
 pub struct Desk {
-    pub shape: Shape,
-    pub plan: Option<Key>,
+    pub planner: Planner<Aberration>,
 }
 
-/// The plan for a trial, where none is asked for more than being best.
-fn find(shape: Shape) -> Option<Key>
-    ensures { λ r. ⌜ Found shape r ⌝ }
-{
-    first_best(&Aberration, &Standing::new(shape))
-}
+impl Copy for Desk {}
 
 /// The chain of an effect in a plan.
 fn chain_of(key: Key, effect: u16, line: usize) -> Answer
@@ -43,22 +34,27 @@ fn chain_of(key: Key, effect: u16, line: usize) -> Answer
     }
 }
 
+/// What a found key is answered.
+fn found(result: Result<Key, Refusal>, line: usize) -> Answer
+    ensures { λ r. ⌜ answerText r ≡ planTold result line ⌝ }
+{
+    match result {
+        Ok(key) => Answer::Plan(key),
+        Err(refusal) => Answer::Refused(refusal, line),
+    }
+}
+
 impl Desk {
     /// Obeys the order of the line with this number: its answer, and the desk after it.
     pub fn obey(self, command: Command, line: usize) -> (Answer, Desk)
         ensures { λ r. ⌜ Obeyed self command line (answerText (r .0)) (r .1) ⌝ }
     {
-        match (command, self.plan) {
-            (Command::Find, _) => match find(self.shape) {
-                Some(key) => (
-                    Answer::Plan(key),
-                    Desk {
-                        shape: self.shape,
-                        plan: Some(key),
-                    },
-                ),
-                None => (Answer::Refused(Refusal::NoKey, line), self),
-            },
+        match (command, self.planner.plan()) {
+            (Command::Find, _) => {
+                let mut planner = self.planner;
+                let result = planner.find();
+                (found(result, line), Desk { planner })
+            }
             (_, None) => (Answer::Refused(Refusal::NoPlan, line), self),
             (Command::Layout, Some(key)) => (Answer::Rows(key), self),
             (Command::Chain(effect), Some(key)) => (chain_of(key, effect, line), self),

@@ -7,6 +7,7 @@ ghost use Rattle.lines.specs.Opens.{opens};
 ghost use Rattle.lines.specs.Ranks.{ranks};
 ghost use Rattle.lines.specs.Commands.{commands};
 ghost use Rattle.spelling.specs.Spelled.{answerText};
+ghost use Rattle.answers.specs.Obeyed.{shapeOf};
 ghost use Rattle.answers.specs.Stepped.{Opened, Ranked, Ordered, Stepped};
 use crate::desk::Desk;
 use lines::command::read_command;
@@ -14,6 +15,9 @@ use lines::opening::read_opening;
 use lines::ranking::RankingName;
 use lines::ranking::read_ranking;
 use opening::Shape;
+use planner::planner::Planner;
+use ranking::aberration::Aberration;
+use ranking::aberration::AberrationRanking;
 use sheet::fault::LineFault;
 use sheet::fault::SheetFault;
 use sheet::fault::SheetFromLine;
@@ -21,7 +25,6 @@ use sheet::reader::Line;
 use spelling::answer::Answer;
 
 /// What the next line of a sheet is to be.
-#[derive(Clone, Copy)]
 pub enum Stage {
     /// The sheet is at fault as a whole, which its first answer tells.
     Unread(SheetFault),
@@ -34,6 +37,8 @@ pub enum Stage {
     /// Nothing: no further line is read.
     Over,
 }
+
+impl Copy for Stage {}
 
 /// Reads the opening line.
 fn opened(line: Line<'_>) -> Result<(Answer, Stage), LineFault>
@@ -52,16 +57,20 @@ fn ranked(line: Line<'_>, shape: Shape) -> Result<(Answer, Stage), LineFault>
     ensures { λ r. ⌜ Ranked shape (ranks (line .entry .number) (wordsLeft (line .entry))) r ⌝ }
 {
     match read_ranking(line)? {
-        RankingName::Aberration => Ok((Answer::Nothing, Stage::Orders(Desk { shape, plan: None }))),
+        RankingName::Aberration => {
+            let planner = Planner::of(shape, Aberration);
+            Ok((Answer::Nothing, Stage::Orders(Desk { planner })))
+        }
     }
 }
 
 /// Reads an order and obeys it.
 fn ordered(line: Line<'_>, desk: Desk) -> Result<(Answer, Stage), LineFault>
-    ensures { λ r. ⌜ Ordered desk (line .entry .number) (commands (desk .shape .n1) (desk .shape .n2) (line .entry .number) (wordsLeft (line .entry))) r ⌝ }
+    ensures { λ r. ⌜ Ordered desk (line .entry .number) (commands (shapeOf desk .n1) (shapeOf desk .n2) (line .entry .number) (wordsLeft (line .entry))) r ⌝ }
 {
     let number = line.number();
-    let command = read_command(line, desk.shape.n1, desk.shape.n2)?;
+    let shape = desk.planner.shape();
+    let command = read_command(line, shape.n1, shape.n2)?;
     let (answer, after) = desk.obey(command, number);
     Ok((answer, Stage::Orders(after)))
 }

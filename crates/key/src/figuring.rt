@@ -41,11 +41,19 @@ impl Key {
         }
     }
 
+    /// Its effects counted by alias and length.
+    pub fn counts(&self) -> Counts
+        ensures shape { λ r. ⌜ r .shape ≡ now (self .entry) .shape ⌝ }
+        ensures columns { λ r. ⌜ columnsIn r ≡ columnsOf (now (self .entry)) ⌝ }
+    {
+        counted(self.shape, self.columns())
+    }
+
     /// The least length of a defining word; none where there is no such word.
     pub fn resolution(&self) -> Option<u8>
         ensures answer { λ r. ⌜ r ≡ resolution (columnsOf (now (self .entry))) ⌝ }
         ensures least { λ r. ⌜ Resolves (columnsOf (now (self .entry))) r ⌝ }
     {
-        counted(self.shape, self.columns()).resolution()
+        self.counts().resolution()
     }
 }

@@ -1,20 +1,20 @@
-//! A ranking that was written outside of the library, put through its search beside aberration.
+//! A ranking that was written outside of the library, given to a planner beside aberration.
 
 mod free;
 
-use finding::best::first_best;
 use free::MostFree;
 use free::MostFreeRanking;
 use key::Key;
 use opening::Shape;
+use planner::planner::Planner;
 use ranking::aberration::Aberration;
 use ranking::aberration::AberrationRanking;
 use std::io;
-use wishes::standing::Standing;
+use theory::refusal::Refusal;
 
 /// Prints the columns of a key with three of its figures.
-fn print_key(rt: &LibcRuntime, name: &str, found: Option<Key>) -> io::Result<()> {
-    let Some(key) = found else {
+fn print_key(rt: &LibcRuntime, name: &str, found: Result<Key, Refusal>) -> io::Result<()> {
+    let Ok(key) = found else {
         return println!(rt, "  {name}: none");
     };
     let tally = key.tally();
@@ -35,9 +35,10 @@ fn compare(rt: &LibcRuntime, w: u16, s: u16, n1: u16, n2: u16) -> io::Result<()>
     println!(rt, "open {w} {s} {n1} {n2}")?;
     match Shape::new(w, s, n1, n2) {
         Ok(shape) => {
-            let unwished = Standing::new(shape);
-            print_key(rt, "aberration", first_best(&Aberration, &unwished))?;
-            print_key(rt, "most free", first_best(&MostFree, &unwished))
+            let mut usual = Planner::of(shape, Aberration);
+            let mut ours = Planner::of(shape, MostFree);
+            print_key(rt, "aberration", usual.find())?;
+            print_key(rt, "most free", ours.find())
         }
         Err(refusal) => {
             let number = refusal.number();

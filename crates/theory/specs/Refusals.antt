@@ -1,7 +1,7 @@
 -- The number of each refusal. Assumes nothing.
 use Prim.Native.Nat.{ℕ}
 use Rattle.theory.specs.declared.refusal.Refusal.{Refusal}
-use Rattle.theory.specs.declared.refusal.Refusal.the-variants.{WholePlotUnits, SubplotUnits, WholePlotFactors, SubplotFactors, FactorCount, WeightLimits, WishKind, WishForm, WishStands, WishesFull, NoKey, NoPlan, NoRun, NoEffect, ShortBuffer}
+use Rattle.theory.specs.declared.refusal.Refusal.the-variants.{WholePlotUnits, SubplotUnits, WholePlotFactors, SubplotFactors, FactorCount, WeightLimits, WishKind, WishForm, WishStands, WishesFull, WishAbsent, NoKey, NoPlan, NoRun, NoEffect, ShortBuffer}
 
 abbrev pub refusalNumber : Refusal → ℕ
 refusalNumber WholePlotUnits = 1
@@ -14,6 +14,7 @@ refusalNumber WishKind = 11
 refusalNumber WishForm = 12
 refusalNumber WishStands = 13
 refusalNumber WishesFull = 14
+refusalNumber WishAbsent = 15
 refusalNumber NoKey = 21
 refusalNumber NoPlan = 22
 refusalNumber NoRun = 23

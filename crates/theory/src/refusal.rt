@@ -26,6 +26,8 @@ pub enum Refusal {
     WishStands,
     /// Twelve wishes stand.
     WishesFull,
+    /// The wish does not stand.
+    WishAbsent,
     /// No sound key meets what is asked.
     NoKey,
     /// No plan stands.
@@ -54,6 +56,7 @@ impl Refusal {
             Refusal::WishForm => 12,
             Refusal::WishStands => 13,
             Refusal::WishesFull => 14,
+            Refusal::WishAbsent => 15,
             Refusal::NoKey => 21,
             Refusal::NoPlan => 22,
             Refusal::NoRun => 23,

@@ -1,17 +1,18 @@
--- Lists of wishes: what a list has, and a wish more.
-use mathlib.Core.Path.{_≡_, refl, sym, _∙_, subst}
-use mathlib.Core.Bool.{true, false, not, _&&_, _||_}
+-- Lists of wishes: what a list has, a wish more, a wish less.
+use mathlib.Core.Path.{_≡_, refl, sym, _∙_, subst, subst₂}
+use mathlib.Core.Bool.{Bool, true, false, not, _&&_, _||_}
 use mathlib.Core.Logic.{_⊎_, inl, inr}
 use mathlib.Core.List.{List, [], _∷_, _++_}
 use Prim.Native.Nat.{ℕ, _+_, _≤_, _<_}
 use lib.Dec.{eqb}
-use lib.ListN.{length, getD, take}
+use lib.ListN.{length, getD, set, take}
 use Rattle.std.specs.Orderings.{Decides}
 use Rattle.std.specs.declared.option.Option.the-variants.{Some}
-use Rattle.std.specs.shelf.Lists.{All, Has}
-use Rattle.std.proofs.shelf.Lists.{take-more, take-all}
+use Rattle.std.specs.shelf.Lists.{All, kept-by, Has}
+use Rattle.std.proofs.shelf.Filters.{Keeping, keeping-more-no, keeping-more-set}
+use Rattle.std.proofs.shelf.Lists.{getD-default, take-more, take-all}
 use Rattle.std.proofs.shelf.Elements.{has-getD}
-use Rattle.std.proofs.shelf.Tests.{eqb-true, eq-eqb, and-parts, and-from, or-parts, or-from, not-true, not-from-false, both-ways, cases-bool}
+use Rattle.std.proofs.shelf.Tests.{eqb-true, eq-eqb, and-parts, and-from, or-parts, or-from, not-true, not-from-true, not-from-false, both-ways, cases-bool, cond-both}
 use Rattle.std.proofs.shelf.Ways.{decides-by-and, decides-by-or}
 use Rattle.theory.specs.declared.wish.Wish.{Wish}
 use Rattle.theory.specs.declared.wish.Wish.the-variants.{Clear, Apart, Fine, Word, Least}
@@ -96,3 +97,45 @@ distinct-push (x ∷ xs) wish once f =
     let none = or-parts (sameWish x wish) (stands xs wish) f in
     let still = stands-append xs (wish ∷ []) x (not-true (stands xs x) (parts .0)) (or-from (sameWish wish x) false (other-way x wish (none .0)) refl) in
     and-from (not (stands (xs ++ wish ∷ []) x)) (distinct (xs ++ wish ∷ [])) (not-from-false (stands (xs ++ wish ∷ []) x) still) (distinct-push xs wish (parts .1) (none .1))
+
+-- ---- a wish less
+module _ (p : Wish → Bool) where
+  stands-kept : (xs : List Wish) (wish : Wish) → stands xs wish ≡ false → stands (kept-by p xs) wish ≡ false
+  stands-kept [] wish f = f
+  stands-kept (x ∷ xs) wish f =
+      let parts = or-parts (sameWish x wish) (stands xs wish) f in
+      cond-both (p x) (x ∷ kept-by p xs) (kept-by p xs) (λ ys. stands ys wish ≡ false)
+      (λ _. or-from (sameWish x wish) (stands (kept-by p xs) wish) (parts .0) (stands-kept xs wish (parts .1)))
+      (λ _. stands-kept xs wish (parts .1))
+
+  pub formed-kept : (n : ℕ) (xs : List Wish) → allFormed n xs ≡ true → allFormed n (kept-by p xs) ≡ true
+  formed-kept n [] all = all
+  formed-kept n (x ∷ xs) all =
+      let parts = and-parts (formed n x) (allFormed n xs) all in
+      cond-both (p x) (x ∷ kept-by p xs) (kept-by p xs) (λ ys. allFormed n ys ≡ true)
+      (λ _. and-from (formed n x) (allFormed n (kept-by p xs)) (parts .0) (formed-kept n xs (parts .1)))
+      (λ _. formed-kept n xs (parts .1))
+
+  pub distinct-kept : (xs : List Wish) → distinct xs ≡ true → distinct (kept-by p xs) ≡ true
+  distinct-kept [] once = once
+  distinct-kept (x ∷ xs) once =
+      let parts = and-parts (not (stands xs x)) (distinct xs) once in
+      cond-both (p x) (x ∷ kept-by p xs) (kept-by p xs) (λ ys. distinct ys ≡ true)
+      (λ _. and-from (not (stands (kept-by p xs) x)) (distinct (kept-by p xs))
+      (not-from-false (stands (kept-by p xs) x) (stands-kept xs x (not-true (stands xs x) (parts .0)))) (distinct-kept xs (parts .1)))
+      (λ _. distinct-kept xs (parts .1))
+
+-- a loop that moves the other wishes up
+module _ (wish : Wish) (xs ys zs : List Wish) (k i m : ℕ) (d : Wish) (so-far : Keeping (λ x. not (sameWish x wish)) xs ys k i) (h : i < length ys) where
+  read : getD ys i d ≡ getD ys i (getD ys i d)
+  read = getD-default ys i d (getD ys i d) h
+
+  pub rest-keeps : sameWish (getD ys i d) wish ≡ false → zs ≡ set ys k (getD ys i d) → m ≡ k + 1 → Keeping (λ x. not (sameWish x wish)) xs zs m (i + 1)
+  rest-keeps f written more =
+      subst₂ (λ (us : List Wish) (n : ℕ). Keeping (λ x. not (sameWish x wish)) xs us n (i + 1)) (sym written) (sym more)
+      (keeping-more-set so-far h (not-from-false (sameWish (getD ys i d) wish) f) read)
+
+  pub rest-skips : sameWish (getD ys i d) wish ≡ true → zs ≡ ys → m ≡ k → Keeping (λ x. not (sameWish x wish)) xs zs m (i + 1)
+  rest-skips t written more =
+      subst₂ (λ (us : List Wish) (n : ℕ). Keeping (λ x. not (sameWish x wish)) xs us n (i + 1)) (sym written) (sym more)
+      (keeping-more-no so-far h (not-from-true (sameWish (getD ys i d) wish) t) read)

@@ -1,6 +1,6 @@
 -- The places of a standing list.
 use mathlib.Core.Path.{_≡_, sym, ap, _∙_, subst}
-use mathlib.Core.Bool.{true, false}
+use mathlib.Core.Bool.{true, false, not}
 use mathlib.Core.List.{List, [], _∷_, _++_}
 use Prim.Native.Nat.{ℕ, _+_, _≤_, _<_}
 use native.Mathlib.Omega.{arith}
@@ -16,9 +16,9 @@ use Rattle.theory.specs.declared.wish.Wish.{Wish}
 use Rattle.theory.specs.Wishes.{formed}
 use Rattle.opening.specs.Shapes.{factorsOf}
 use Rattle.wishes.specs.declared.standing.Standing.{Standing}
-use Rattle.wishes.specs.Lists.{stands, allFormed, distinct}
+use Rattle.wishes.specs.Lists.{sameWish, stands, allFormed, distinct, without}
 use Rattle.wishes.specs.Standings.{wishesIn, adding}
-use Rattle.wishes.proofs.Listed.{formed-push, distinct-push}
+use Rattle.wishes.proofs.Listed.{formed-push, distinct-push, formed-kept, distinct-kept}
 
 pub standing-length : (standing : Standing) → length (wishesIn standing) ≡ standing .count
 standing-length standing = length-take-le (standing .count) (standing .list) (omega (arith, standing .few, standing .long))
@@ -57,3 +57,11 @@ module _ (standing : Standing) (wish : Wish) (of : formed (factorsOf (standing .
   granted-adding none h =
       sym (cond-true (formed (factorsOf (standing .shape)) wish) _ _ of ∙ cond-false (stands xs wish) _ _ (sym none)
       ∙ cond-true (ltb (length xs) 12) _ _ (lt-ltb (length xs) 12 (omega (arith, standing-length standing))))
+
+-- ---- one wish less
+pub one-less : (standing : Standing) (wish : Wish) (list : List Wish) (count : ℕ) → take count list ≡ without wish (wishesIn standing)
+    → (allFormed (factorsOf (standing .shape)) (take count list) ≡ true) × (distinct (take count list) ≡ true)
+one-less standing wish list count is = (
+  subst (λ (ys : List Wish). allFormed (factorsOf (standing .shape)) ys ≡ true) (sym is) (formed-kept (λ x. not (sameWish x wish)) (factorsOf (standing .shape)) (wishesIn standing) (standing .formed)),
+  subst (λ (ys : List Wish). distinct ys ≡ true) (sym is) (distinct-kept (λ x. not (sameWish x wish)) (wishesIn standing) (standing .once)),
+)

@@ -4,6 +4,7 @@ use mathlib.Core.Bool.{Bool, true, false, not, _&&_, _||_}
 use mathlib.Core.List.{List, [], _∷_}
 use Prim.Native.Nat.{ℕ}
 use lib.Dec.{eqb}
+use Rattle.std.specs.shelf.Lists.{kept-by}
 use Rattle.theory.specs.declared.wish.Wish.{Wish}
 use Rattle.theory.specs.declared.wish.Wish.the-variants.{Clear, Apart, Fine, Word, Least}
 use Rattle.theory.specs.Wishes.{formed}
@@ -48,11 +49,18 @@ abbrev pub distinct : List Wish → Bool
 distinct [] = true
 distinct (x ∷ xs) = not (stands xs x) && distinct xs
 
+-- the list without the wish, the others in their order
+abbrev pub without : Wish → List Wish → List Wish
+without wish xs = kept-by (λ x. not (sameWish x wish)) xs
+
 example-stands : stands (Clear 3 ∷ Fine 5 ∷ []) (Fine 5) ≡ true
 example-stands = refl
 
 example-kind : stands (Clear 3 ∷ Fine 5 ∷ []) (Clear 5) ≡ false
 example-kind = refl
+
+example-without : without (Fine 5) (Clear 3 ∷ Fine 5 ∷ Least 4 ∷ []) ≡ Clear 3 ∷ Least 4 ∷ []
+example-without = refl
 
 example-twice : distinct (Clear 3 ∷ Fine 5 ∷ Clear 3 ∷ []) ≡ false
 example-twice = refl

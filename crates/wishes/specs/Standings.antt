@@ -8,7 +8,7 @@ use lib.ListN.{length, take}
 use Rattle.std.specs.declared.result.Result.{Result}
 use Rattle.std.specs.declared.result.Result.the-variants.{Ok, Err}
 use Rattle.theory.specs.declared.refusal.Refusal.{Refusal}
-use Rattle.theory.specs.declared.refusal.Refusal.the-variants.{WishForm, WishStands, WishesFull}
+use Rattle.theory.specs.declared.refusal.Refusal.the-variants.{WishForm, WishStands, WishesFull, WishAbsent}
 use Rattle.theory.specs.declared.wish.Wish.{Wish}
 use Rattle.theory.specs.declared.wish.Wish.the-variants.{Least}
 use Rattle.theory.specs.Wishes.{formed}
@@ -29,6 +29,10 @@ adding n xs wish =
     (cond (ltb (length xs) 12) (Ok tt) (Err WishesFull)))
     (Err WishForm)
 
+-- What striking a wish answers. Does this very wish stand?
+abbrev pub striking : List Wish → Wish → Result Unit Refusal
+striking xs wish = cond (stands xs wish) (Ok tt) (Err WishAbsent)
+
 -- A granted call leaves the wishes xs and the shape as it was; a refused one leaves all as it was.
 abbrev pub Changed : Result Unit Refusal → Standing → Standing → List Wish → Type 0
 Changed (Ok _) old new xs = (new .shape ≡ old .shape) × (wishesIn new ≡ xs)
@@ -36,3 +40,6 @@ Changed (Err _) old new xs = new ≡ old
 
 example-twice : adding 4 (Least 4 ∷ []) (Least 4) ≡ Err WishStands
 example-twice = refl
+
+example-absent : striking (Least 4 ∷ []) (Least 5) ≡ Err WishAbsent
+example-absent = refl

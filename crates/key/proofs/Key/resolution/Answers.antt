@@ -9,5 +9,5 @@ use Rattle.key.proofs.Key.resolution.Needs as need
 pub returns : need.returns
 returns c =
     let cs = columnsOf (c .args .self .now) in
-    let same = c .resolution .ensures ∙ ap resolution (c .counted .ensures .columns ∙ c .columns .ensures) in
+    let same = c .resolution .ensures ∙ ap resolution (c .counts .ensures .columns) in
     record { answer = same; least = subst (Resolves cs) (sym same) (resolves cs) }

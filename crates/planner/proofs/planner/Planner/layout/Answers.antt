@@ -1,0 +1,13 @@
+use mathlib.Core.Path.{sym, subst}
+use Rattle.std.specs.declared.option.Option.{Option}
+use Rattle.key.specs.declared.Key.{Key}
+use Rattle.planner.specs.Entries as asked
+use Rattle.planner.specs.Rules.{Answered}
+use Rattle.planner.proofs.Going.{asked as goes-on}
+use Rattle.planner.proofs.planner.Planner.layout.Needs as need
+
+pub returns-in-Some : need.returns-in-Some
+returns-in-Some g c =
+    let question = asked.layout (c .args .out .now) (c .layout .result) (c .layout .last .out) in
+    goes-on (g .R·Ranking .scored) (g .R·Ranking .ranked) (c .args .self .now) question
+    (subst (λ (plan : Option Key). Answered plan question) (sym (c .in-Some .is)) (c .layout .ensures .answer, c .layout .ensures .buffer))
