@@ -1,5 +1,7 @@
 //! Answers to an order sheet, one line after another.
 
+#![tactic(auto)]
+
 pub mod desk;
 pub mod session;
 pub mod stage;

@@ -1,5 +1,7 @@
 //! Calls to a planner, and what each is answered.
 
+#![tactic(auto)]
+
 use planner::planner::Planner;
 use ranking::aberration::Aberration;
 use std::io;

@@ -1,5 +1,7 @@
 //! Two factors of one layer exchanged, and what that leaves as it is.
 
+#![tactic(auto)]
+
 ghost use Rattle.exchange.specs.Outdoing.{ExchangeFact};
 
 /// A standard key with two columns that may be exchanged, the later one smaller, is outdone where the

@@ -1,4 +1,6 @@
 //! The figures of a key, counted column by column.
 
+#![tactic(auto)]
+
 pub mod alias;
 pub mod counts;

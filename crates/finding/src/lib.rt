@@ -1,5 +1,7 @@
 //! The search through all standard keys of a shape, and the first best of them.
 
+#![tactic(auto)]
+
 mod begun;
 pub mod best;
 mod judge;

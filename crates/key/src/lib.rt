@@ -1,5 +1,7 @@
 //! Keys whose type says that they are sound, and the questions that one key answers.
 
+#![tactic(auto)]
+
 ghost use Rattle.std.specs.Prelude.{◌≡◌, length, take};
 ghost use Rattle.theory.specs.Keys.{Words, Own, Apart, Full};
 ghost use Rattle.opening.specs.Shapes.{layers_of, homes_of, factors_of};

@@ -1,5 +1,7 @@
 //! How many unit factors and factors a trial has.
 
+#![tactic(auto)]
+
 ghost use Rattle.std.specs.Prelude.{◌+◌, ◌≤◌};
 
 mod limits;

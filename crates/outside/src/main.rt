@@ -1,5 +1,7 @@
 //! A ranking that was written outside of the library, given to a planner beside aberration.
 
+#![tactic(auto)]
+
 mod free;
 
 use free::MostFree;

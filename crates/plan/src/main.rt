@@ -1,5 +1,7 @@
 //! Reads an order sheet from standard input and writes its answers to standard output.
 
+#![tactic(auto)]
+
 ghost use Rattle.std.specs.Prelude.{◌≤◌, length, IfOk};
 
 use answers::session::Session;

@@ -3,6 +3,8 @@
 //! For each: w s n1 n2, the counts A3 to A6 as they were published, and those of the plan that finding gives under
 //! aberration.
 
+#![tactic(auto)]
+
 use planner::planner::Planner;
 use ranking::aberration::Aberration;
 use std::io;

@@ -1,5 +1,7 @@
 //! Rankings: which of two keys is the better one, by their tallies.
 
+#![tactic(auto)]
+
 pub mod aberration;
 pub mod choice;
 pub mod penalty;

@@ -1,5 +1,7 @@
 //! The worked samples of the definitions, as one theorem.
 
+#![tactic(auto)]
+
 ghost use Rattle.samples.specs.Samples.{SampleFact};
 
 /// What the definitions say of three small trials: their standard keys, and of these the defining

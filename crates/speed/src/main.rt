@@ -2,6 +2,8 @@
 //!
 //! It writes to standard error, so that what it writes to standard output is always the same.
 
+#![tactic(auto)]
+
 use planner::planner::Planner;
 use ranking::aberration::Aberration;
 use ranking::penalty::Penalty;

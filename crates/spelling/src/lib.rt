@@ -1,3 +1,5 @@
 //! How answers are spelled.
 
+#![tactic(auto)]
+
 pub mod answer;

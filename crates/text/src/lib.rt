@@ -1,4 +1,7 @@
 //! Texts put one after another into a lent buffer.
+
+#![tactic(auto)]
+
 ghost use Rattle.std.specs.Prelude.{◌≡◌, ◌+◌, ◌≤◌, length, decimal};
 ghost use Rattle.text.specs.Texts.{put, written, ended};
 

@@ -1,5 +1,7 @@
 //! What keys mean, and the laws that everything above rests on.
 
+#![tactic(auto)]
+
 pub mod laws;
 pub mod refusal;
 pub mod sign;

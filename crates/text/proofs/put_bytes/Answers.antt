@@ -5,5 +5,5 @@ use Rattle.text.proofs.put_bytes.Goals as goal
 pub returns : goal.returns
 returns c = record {
   value = sym (ended_fits c.args.out.now c.args.at c.args.bytes.now (omega arith));
-  after = put_part c.args.out.now c.args.at c.args.bytes.now _ _ c.copy-from-slice.ensures.after (omega arith) ∙ sym (written_fits c.args.out.now c.args.at c.args.bytes.now (omega arith));
+  after = put_part c.args.out.now c.args.at c.args.bytes.now _ _ c.copy_from_slice.ensures.after (omega arith) ∙ sym (written_fits c.args.out.now c.args.at c.args.bytes.now (omega arith));
 }
