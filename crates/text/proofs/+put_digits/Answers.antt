@@ -12,17 +12,17 @@ returns-then-n-lt10 t c = record {
   after = put_one_digit _ _ _ c.if-n-lt10.true c.requires;
 }
 
-pub put-digits-end-requires : goal.put-digits-end-requires
-put-digits-end-requires t c = (search rules, omega (arith, length_more c.args.n c.if-n-lt10.false (omega arith)))
+pub put_digits-end-requires : goal.put_digits-end-requires
+put_digits-end-requires t c = (search rules, omega (arith, length_more c.args.n c.if-n-lt10.false (omega arith)))
 
 pub bounds-out-end : goal.bounds-out-end
 bounds-out-end t c = omega (arith, length_more c.args.n c.if-n-lt10.false (omega arith))
 
-pub overflow-add-result-2 : goal.overflow-add-result-2
-overflow-add-result-2 t c = search (rules, length_more c.args.n c.if-n-lt10.false (omega arith))
+pub overflow_add-result-2 : goal.overflow_add-result-2
+overflow_add-result-2 t c = search (rules, length_more c.args.n c.if-n-lt10.false (omega arith))
 
 pub returns : goal.returns
 returns t c = record {
   value = omega (arith, length_more c.args.n c.if-n-lt10.false (omega arith));
-  after = put_digit _ _ _ _ _ c.if-n-lt10.false (omega arith) c.requires c.put-digits-end.ensures.after c.put-digits-end.ensures.value;
+  after = put_digit _ _ _ _ _ c.if-n-lt10.false (omega arith) c.requires c.put_digits-end.ensures.after c.put_digits-end.ensures.value;
 }
