@@ -7,8 +7,8 @@ use Rattle.sheet.proofs.Digit.{digit_yes, sized}
 
 -- one digit more at the end
 digits_push : (m : ℕ) (ds : List ℕ) (c : ℕ) → is_digit c ≡ true → digits_on m (ds ++ c ∷ []) ≡ given (digits_on m ds) (λ v. Some (v * 10 + (c - 48)))
-digits_push m [] c is_digit = rw is_digit
-digits_push m (d ∷ ds) c is_digit = go (is_digit d) (digits_push (m * 10 + (d - 48)) ds c is_digit)
+digits_push m [] c h = rw h
+digits_push m (d ∷ ds) c h = go (is_digit d) (digits_push (m * 10 + (d - 48)) ds c h)
   where
     go : (b : Bool) → digits_on (m * 10 + (d - 48)) (ds ++ c ∷ []) ≡ given (digits_on (m * 10 + (d - 48)) ds) (λ v. Some (v * 10 + (c - 48)))
         → cond b (digits_on (m * 10 + (d - 48)) (ds ++ c ∷ [])) None ≡ given (cond b (digits_on (m * 10 + (d - 48)) ds) None) (λ v. Some (v * 10 + (c - 48)))

@@ -7,11 +7,11 @@ use Rattle.key.proofs.Key.layout.Goals as goal
 pub returns : goal.returns
 returns c =
     let text = layout_of c.args.self.now in
-    let size = c.put-plots-size.result in
-    let copied : c.copy-from-slice.new.self ≡ text =
-    c.copy-from-slice.ensures.after ∙ ap (take (size - 0)) c.put-plots-size.ensures.after ∙ take_at text _ (size - 0) (omega arith) in
+    let size = c.put_plots-size.result in
+    let copied : c.copy_from_slice.new.self ≡ text =
+    c.copy_from_slice.ensures.after ∙ ap (take (size - 0)) c.put_plots-size.ensures.after ∙ take_at text _ (size - 0) (omega arith) in
     record {
       answer = search rules;
       buffer = ap₂ (λ (s : List ℕ) (n : ℕ). s ++ drop n c.args.out.now) copied (sub-zero size);
-      bound = omega (arith, c.put-plots-size.ensures.value, c.put-plots-size.ensures.bound);
+      bound = omega (arith, c.put_plots-size.ensures.value, c.put_plots-size.ensures.bound);
     }

@@ -9,14 +9,14 @@ next c =
     let room = held-room c.args.self.now c.args.word c.loop-effect.effect _ _ _ c.loop-effect.invariant c.requires.word (omega arith) (sym c.word.ensures ∙ c.if-word.true) in
     omega (arith, room, c.requires.room)
 
-pub offset-bounds-out-count : goal.offset-bounds-out-count
-offset-bounds-out-count c = omega (arith, next c)
+pub offset_bounds-out-count : goal.offset_bounds-out-count
+offset_bounds-out-count c = omega (arith, next c)
 
 pub bounds-out-count : goal.bounds-out-count
 bounds-out-count c = omega (arith, next c)
 
-pub overflow-add-count : goal.overflow-add-count
-overflow-add-count c = omega (arith, next c)
+pub overflow_add-count : goal.overflow_add-count
+overflow_add-count c = omega (arith, next c)
 
 pub loop-effect-preserved : goal.loop-effect-preserved
 loop-effect-preserved c =

@@ -11,6 +11,6 @@ loop-subplot-init c = (start c.args.out.now c.args.at (omega arith), omega arith
 pub loop-subplot-preserved : goal.loop-subplot-preserved
 loop-subplot-preserved c =
     let key = c.args.self.now in (
-      onward_text (row_text key.shape.w (columns_of key) c.args.plot) c.args.out.now c.args.at _ _ c.loop-subplot.subplot _ _ c.loop-subplot.invariant.0 (omega arith) c.put-row-end.ensures.after c.put-row-end.ensures.value,
+      onward_text (row_text key.shape.w (columns_of key) c.args.plot) c.args.out.now c.args.at _ _ c.loop-subplot.subplot _ _ c.loop-subplot.invariant.0 (omega arith) c.put_row-end.ensures.after c.put_row-end.ensures.value,
       omega arith,
     )

@@ -6,8 +6,8 @@ use Rattle.text.proofs.Pieces.{onward_text, reworded}
 use Rattle.key.proofs.Rows.{plots_le, plot_more}
 use Rattle.key.proofs.Key.put_plots.Goals as goal
 
-pub put-plot-end-requires : goal.put-plot-end-requires
-put-plot-end-requires c =
+pub put_plot-end-requires : goal.put_plot-end-requires
+put_plot-end-requires c =
     let shape = c.args.self.now.shape in
     let p = c.loop-plot.plot in
     record { plot = omega arith; room = omega (arith, plots_le shape.w shape.s (p + 1) (omega arith) (omega arith), plot_more shape.s p) }
@@ -18,7 +18,7 @@ loop-plot-preserved c =
     let p = c.loop-plot.plot in
     let room = plots_le key.shape.w key.shape.s (p + 1) (omega arith) (omega arith) in
     let more = plot_more key.shape.s p in (
-      onward_text (plot_text key.shape.w key.shape.s (columns_of key)) c.args.out.now 0 _ _ p _ _ c.loop-plot.invariant.0 (omega arith) c.put-plot-end.ensures.after c.put-plot-end.ensures.value,
+      onward_text (plot_text key.shape.w key.shape.s (columns_of key)) c.args.out.now 0 _ _ p _ _ c.loop-plot.invariant.0 (omega arith) c.put_plot-end.ensures.after c.put_plot-end.ensures.value,
       omega arith,
     )
 

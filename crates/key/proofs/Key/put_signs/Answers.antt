@@ -16,7 +16,7 @@ loop-factor-preserved c =
     let i = c.loop-factor.factor in
     let long = ap length c.columns-columns.ensures ∙ length_columns key in
     onward_sign (columns_of key) c.args.run c.args.out.now c.args.at i c.loop-factor.out c.mark.result c.loop-factor.invariant (omega (arith, long, c.requires))
-    (c.mark.ensures ∙ ap sign_code (c.sign-of.ensures ∙ ap (λ (cs : List ℕ). sign (get_or cs i 0) c.args.run) c.columns-columns.ensures))
+    (c.mark.ensures ∙ ap sign_code (c.sign_of.ensures ∙ ap (λ (cs : List ℕ). sign (get_or cs i 0) c.args.run) c.columns-columns.ensures))
 
 pub returns : goal.returns
 returns c =

@@ -2,11 +2,11 @@ use Rattle.std.proofs.Common.{rules}
 use Rattle.key.proofs.Soundness.{sign_laws}
 use Rattle.key.proofs.Key.sign.Goals as goal
 
-pub returns-then-not-has-word : goal.returns-then-not-has-word
-returns-then-not-has-word c = record { answer = search rules; laws = sign_laws c.args.self.now }
+pub returns-then-not-has_word : goal.returns-then-not-has_word
+returns-then-not-has_word c = record { answer = search rules; laws = sign_laws c.args.self.now }
 
-pub returns-then-not-has-effect : goal.returns-then-not-has-effect
-returns-then-not-has-effect c = record { answer = search rules; laws = sign_laws c.args.self.now }
+pub returns-then-not-has_effect : goal.returns-then-not-has_effect
+returns-then-not-has_effect c = record { answer = search rules; laws = sign_laws c.args.self.now }
 
 pub returns : goal.returns
 returns c = record { answer = search rules; laws = sign_laws c.args.self.now }

@@ -36,6 +36,6 @@ returns c =
     let words = subst (Words (layers_of key.shape)) (sym c.columns-columns.ensures) key.words in
     let room = last_room cs some c.counted.result key.shape c.counted.ensures.shape front few words in
     let full : columns_in c.counted.result ++ last ∷ [] ≡ columns_of key = ap (λ (xs : List ℕ). xs ++ last ∷ []) front ∙ front_last cs some ∙ c.columns-columns.ensures in
-    let told = sym c.in-Some.is ∙ c.tally-with.ensures ∙ cond-true (room_for c.counted.result last) (Some (tally (layers_of c.counted.result.shape) (columns_in c.counted.result ++ last ∷ []))) None room in
+    let told = sym c.in-Some.is ∙ c.tally_with.ensures ∙ cond-true (room_for c.counted.result last) (Some (tally (layers_of c.counted.result.shape) (columns_in c.counted.result ++ last ∷ []))) None room in
     let same : Some c.in-Some.tally ≡ Some (tally (layers_of key.shape) (columns_of key)) = told ∙ ap₂ (λ (sh : Shape) (xs : List ℕ). Some (tally (layers_of sh) xs)) c.counted.ensures.shape full in
     cc

@@ -9,8 +9,8 @@ returns c =
     let at = c.args.at in
     let p = two_digits c.args.plot c.requires.few.0 in
     let t = two_digits c.args.subplot c.requires.few.1 in
-    let a = onward_fits d at [] d at (decimal (c.args.plot + 1)) _ _ (start d at (omega arith)) (omega arith) c.put-number-end.ensures.after c.put-number-end.ensures.value in
-    let b = onward_fits d at _ _ _ (codes " ") _ _ a.0 (omega arith) c.put-bytes-end.ensures.after c.put-bytes-end.ensures.value in
-    let e = onward_fits d at _ _ _ (decimal (c.args.subplot + 1)) _ _ b.0 (omega arith) c.put-number-end-2.ensures.after c.put-number-end-2.ensures.value in
-    let f = onward_fits d at _ _ _ (codes " ") _ _ e.0 (omega arith) c.put-bytes.ensures.after c.put-bytes.ensures.value in
+    let a = onward_fits d at [] d at (decimal (c.args.plot + 1)) _ _ (start d at (omega arith)) (omega arith) c.put_number-end.ensures.after c.put_number-end.ensures.value in
+    let b = onward_fits d at _ _ _ (codes " ") _ _ a.0 (omega arith) c.put_bytes-end.ensures.after c.put_bytes-end.ensures.value in
+    let e = onward_fits d at _ _ _ (decimal (c.args.subplot + 1)) _ _ b.0 (omega arith) c.put_number-end-2.ensures.after c.put_number-end-2.ensures.value in
+    let f = onward_fits d at _ _ _ (codes " ") _ _ e.0 (omega arith) c.put_bytes.ensures.after c.put_bytes.ensures.value in
     record { value = f.0.ends; bound = omega arith; after = f.0.holds }

@@ -7,11 +7,11 @@ small c =
     let shape = c.args.shape in
     omega (arith, run_lt shape.w shape.s c.args.plot c.args.subplot c.requires.plot c.requires.subplot (omega arith), ap (λ (n : ℕ). n * c.args.subplot) c.plots.ensures)
 
-pub overflow-mul-result : goal.overflow-mul-result
-overflow-mul-result c = omega (arith, small c)
+pub overflow_mul-result : goal.overflow_mul-result
+overflow_mul-result c = omega (arith, small c)
 
-pub overflow-add-result : goal.overflow-add-result
-overflow-add-result c = omega (arith, small c)
+pub overflow_add-result : goal.overflow_add-result
+overflow_add-result c = omega (arith, small c)
 
 pub returns : goal.returns
 returns c = ap (λ (m : ℕ). c.args.plot + m * c.args.subplot) (c.plots.ensures ∙ ap (λ (j : ℕ). 2 ^ j) (sym (zero-add c.args.shape.w)))

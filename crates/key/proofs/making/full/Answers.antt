@@ -24,8 +24,8 @@ loop-column-preserved c = (
 
 pub returns : goal.returns
 returns c = (
-  λ t v l. (mark v l).0 (c.all-seen.ensures.0 t v l),
-  λ h. c.all-seen.ensures.1 (λ v l. (mark v l).1 (h v l)),
+  λ t v l. (mark v l).0 (c.all_seen.ensures.0 t v l),
+  λ h. c.all_seen.ensures.1 (λ v l. (mark v l).1 (h v l)),
 )
   where
     mark : (v : ℕ) → v < 2 ^ units_of c.args.shape → Decides (get_or c.loop-column.seen v false) (Reach c.args.columns.now v)

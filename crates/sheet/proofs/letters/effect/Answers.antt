@@ -3,8 +3,8 @@ use Rattle.sheet.specs.Letters.{factor}
 use Rattle.sheet.proofs.Group.{factor_below, some_letters, join_other, join_back, join_end, turn}
 use Rattle.sheet.proofs.letters.effect.Goals as goal
 
-pub returns-in-default : goal.returns-in-default
-returns-in-default c = search (rules, some_letters, join_other)
+pub returns-in_default : goal.returns-in_default
+returns-in_default c = search (rules, some_letters, join_other)
 
 pub returns-then-factor-next : goal.returns-then-factor-next
 returns-then-factor-next c =

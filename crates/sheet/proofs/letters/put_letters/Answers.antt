@@ -11,13 +11,13 @@ loop-factor-preserved c =
       | else-rest-eq1 w ↦ turn_no _ _ _ c.loop-factor-test.true _ _ _ _ _ c.loop-factor.invariant.2 c.loop-factor.invariant.1 w.if-rest-eq1.false w.group-is w.length-is c.loop-factor.invariant.0
     ]
 
-pub slice-bounds-put-bytes-end-2 : goal.slice-bounds-put-bytes-end-2
-slice-bounds-put-bytes-end-2 c = omega arith
+pub slice_bounds-put_bytes-end-2 : goal.slice_bounds-put_bytes-end-2
+slice_bounds-put_bytes-end-2 c = omega arith
 
 pub returns : goal.returns
 returns c =
     let whole = spelled c.args.n1 c.args.effect c.loop-factor.factor c.loop-factor.rest c.loop-factor.group c.loop-factor.length c.if-effect-eq0.false c.loop-factor-test.false c.loop-factor.invariant.0 in
     record {
-      value = c.put-bytes-2.ensures.value ∙ ap (ended c.args.out.now c.args.at) whole;
-      after = c.put-bytes-2.ensures.after ∙ ap (written c.args.out.now c.args.at) whole;
+      value = c.put_bytes-2.ensures.value ∙ ap (ended c.args.out.now c.args.at) whole;
+      after = c.put_bytes-2.ensures.after ∙ ap (written c.args.out.now c.args.at) whole;
     }

@@ -2,8 +2,8 @@ use Rattle.std.proofs.Common.{ℕ, ◌<◌, sym, subst}
 use Rattle.wishes.proofs.Turning.{below, up, room_below, down, level}
 use Rattle.wishes.proofs.exchanging.turned_effect.Goals as goal
 
-pub overflow-sub-result : goal.overflow-sub-result
-overflow-sub-result c = room_below c.args.factor c.args.effect c.requires.factor c.if-this-next-2.true
+pub overflow_sub-result : goal.overflow_sub-result
+overflow_sub-result c = room_below c.args.factor c.args.effect c.requires.factor c.if-this-next-2.true
 
 pub returns-then-this-next : goal.returns-then-this-next
 returns-then-this-next c =

@@ -4,7 +4,7 @@ use Rattle.sheet.proofs.reader.Line.next_word.Goals as goal
 
 pub returns : goal.returns
 returns c = record {
-  given = placed_step _ _ _ c.if-self.false c.up-to-n.ensures.value c.up-to-n.ensures.within;
+  given = placed_step _ _ _ c.if-self.false c.up_to-n.ensures.value c.up_to-n.ensures.within;
   place = refl;
   line = search rules;
   number = search rules;

@@ -13,7 +13,7 @@ returns-then-self c = record {
 
 pub returns : goal.returns
 returns c = record {
-  given = ap (numbered (c.args.self.now.line + 1)) (line_step _ _ _ _ c.if-self.false c.up-to-n.ensures.value c.min-self.ensures);
+  given = ap (numbered (c.args.self.now.line + 1)) (line_step _ _ _ _ c.if-self.false c.up_to-n.ensures.value c.min-self.ensures);
   whole = (search rules, search rules);
   sheet = search rules;
 }
