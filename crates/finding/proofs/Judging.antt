@@ -126,12 +126,12 @@ module _ {R S : Type 0} (scored : R → Tally → S) (ranked : R → S → S →
 
   module _ (was : Keeps Kind score (ranked u) keys best) (b : Bool) (asked : b ≡ beats (ranked r) best x) where
     -- the best so far stays
-    pub keep-old : b ≡ false → Keeps Kind score (ranked u) (keys ++ key ∷ []) best
-    keep-old e = keeps_old Kind score (ranked u) (order u) keys key best was (beaten b asked ∙ e)
+    pub keep_old : b ≡ false → Keeps Kind score (ranked u) (keys ++ key ∷ []) best
+    keep_old e = keeps_old Kind score (ranked u) (order u) keys key best was (beaten b asked ∙ e)
 
     -- the new one takes its place
-    pub keep-new : b ≡ true → (made : Counts) → columns_in made ≡ key → Kind key → Keeps Kind score (ranked u) (keys ++ key ∷ []) (Some (record { counts = made; score = x }))
-    keep-new e made grown one = (
+    pub keep_new : b ≡ true → (made : Counts) → columns_in made ≡ key → Kind key → Keeps Kind score (ranked u) (keys ++ key ∷ []) (Some (record { counts = made; score = x }))
+    keep_new e made grown one = (
       subst (Leads Kind (by_score score (ranked u)) (keys ++ key ∷ [])) (sym grown) (keeps_new Kind score (ranked u) (order u) keys key one best was (beaten b asked ∙ e)),
       score_is ∙ ap score (sym grown),
     )

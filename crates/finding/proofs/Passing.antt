@@ -38,13 +38,13 @@ formed_more {m} {n} h wish = go wish
     wider : (e : ℕ) → e < 2 ^ m → e < 2 ^ n
     wider e l = lt_of_lt_of_le l (pow_mono h)
 
-    low-more : (e : ℕ) → Low m e → Low n e
-    low-more e l = (wider e l.0, l.1, l.2)
+    low_more : (e : ℕ) → Low m e → Low n e
+    low_more e l = (wider e l.0, l.1, l.2)
 
     go : (wish : Wish) → Formed m wish → Formed n wish
     go (Clear e) k = (wider e k.0, k.1)
-    go (Apart e f) k = (k.0, low-more e k.1, low-more f k.2)
-    go (Fine e) k = low-more e k
+    go (Apart e f) k = (k.0, low_more e k.1, low_more f k.2)
+    go (Fine e) k = low_more e k
     go (Word e) k = (wider e k.0, k.1)
     go (Least r) k = k
 
@@ -89,9 +89,9 @@ module _ (counts : Counts) (first now : Standing) (same : now ≡ first) (r : Bo
           (subst (λ (s : Standing). PassesAll (layers_of counts.shape) (wishes_in s) (columns_in counts)) same (when_false _ _ f test)),
     )
 
-    pub keep-failed : {S : Type 0} (score : Tally → S) (ranks : S → S → Verdict) → Order ranks → (keys : List (List ℕ)) (best : Option (Kept S)) → KeepsPassing begun.shape (wishes_in first) score ranks keys best
+    pub keep_failed : {S : Type 0} (score : Tally → S) (ranks : S → S → Verdict) → Order ranks → (keys : List (List ℕ)) (best : Option (Kept S)) → KeepsPassing begun.shape (wishes_in first) score ranks keys best
         → r ≡ true → KeepsPassing begun.shape (wishes_in first) score ranks (keys ++ whole ∷ []) best
-    keep-failed score ranks order keys best was t =
+    keep_failed score ranks order keys best was t =
         keeps_on (PassesAll (layers_of begun.shape) (wishes_in first)) (λ (key : List ℕ). score (tally (layers_of begun.shape) key)) ranks order keys best was (whole ∷ []) fails
       where
         fails : (key : List ℕ) → In key (whole ∷ []) → PassesAll (layers_of begun.shape) (wishes_in first) key → ⊥

@@ -43,8 +43,8 @@ module _ (shape : Shape) (wishes : List Wish) (formed : all_formed (factors_of s
   none_sound none key sound met = let twin = wished_twin key sound met in none twin.0 twin.1
 
   module _ {S : Type 0} (score : Tally → S) (ranks : S → S → Verdict) where
-    pub first-is-best : (key : List ℕ) → FirstBest (Wished shape wishes) (by_tally shape score ranks) key → BestSound shape wishes (by_tally shape score ranks) key
-    first-is-best key first = record {
+    pub first_is_best : (key : List ℕ) → FirstBest (Wished shape wishes) (by_tally shape score ranks) key → BestSound shape wishes (by_tally shape score ranks) key
+    first_is_best key first = record {
       sound = first.one.0.sound;
       meets = first.one.1;
       best = λ other sound met.
@@ -52,9 +52,9 @@ module _ (shape : Shape) (wishes : List Wish) (formed : all_formed (factors_of s
           subst (λ (t : Tally). HoldsUp (ranks (score (tally (layers_of shape) key)) (score t))) twin.2 (first.best twin.0 twin.1);
     }
 
-    pub finding-sound : {X : Type 0} (columns : X → List ℕ) (r : Option X) → Finding columns (Wished shape wishes) (by_tally shape score ranks) r → FindingSound columns shape wishes (by_tally shape score ranks) r
-    finding-sound columns None none = none_sound none
-    finding-sound columns (Some x) first = first-is-best (columns x) first
+    pub finding_sound : {X : Type 0} (columns : X → List ℕ) (r : Option X) → Finding columns (Wished shape wishes) (by_tally shape score ranks) r → FindingSound columns shape wishes (by_tally shape score ranks) r
+    finding_sound columns None none = none_sound none
+    finding_sound columns (Some x) first = first_is_best (columns x) first
 
 -- ---- one wish more
 all_front : {X : Type 0} (P : X → Type 0) (xs ys : List X) → All P (xs ++ ys) → All P xs
@@ -71,15 +71,15 @@ module _ (shape : Shape) (wishes : List Wish) (wish : Wish) where
 
   module _ (ranks : List ℕ → List ℕ → Verdict) (key : List ℕ) (met : Meets (layers_of shape) key wish) where
     -- a best key that meets one wish more is a best of those that do
-    pub best-fewer : BestSound shape wishes ranks key → BestSound shape (wishes ++ wish ∷ []) ranks key
-    best-fewer best = record {
+    pub best_fewer : BestSound shape wishes ranks key → BestSound shape (wishes ++ wish ∷ []) ranks key
+    best_fewer best = record {
       sound = best.sound;
       meets = All-push (Meets (layers_of shape) key) wishes wish best.meets met;
       best = λ other sound all. best.best other sound (fewer_met other all);
     }
 
-    pub first-fewer : FirstBest (Wished shape wishes) ranks key → FirstBest (Wished shape (wishes ++ wish ∷ [])) ranks key
-    first-fewer first = record {
+    pub first_fewer : FirstBest (Wished shape wishes) ranks key → FirstBest (Wished shape (wishes ++ wish ∷ [])) ranks key
+    first_fewer first = record {
       one = (first.one.0, All-push (Meets (layers_of shape) key) wishes wish first.one.1 met);
       best = λ other h. first.best other (h.0, fewer_met other h.1);
       first = λ other h b. first.first other (h.0, fewer_met other h.1) b;

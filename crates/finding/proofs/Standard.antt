@@ -9,7 +9,7 @@ use Rattle.theory.proofs.Opens.{Fits, open_0}
 use Rattle.theory.proofs.Count.{none_0}
 use Rattle.theory.proofs.Pigeon.{exp_le}
 use Rattle.theory.proofs.Sounds.{an_effect}
-use Rattle.theory.proofs.Plots.{top_open, top_from, next_s, standard-to, standard-from, sound-to}
+use Rattle.theory.proofs.Plots.{top_open, top_from, next_s, standard_to, standard_from, sound_to}
 use Rattle.finding.specs.declared.opened.Opened.{Opened}
 use Rattle.finding.specs.Walks.{is_in_layer, keys_from, none_open}
 use Rattle.finding.specs.Listing.{In, Listed, ListingFact}
@@ -64,8 +64,8 @@ module _ (w s n1 : ℕ) where
       (mod-lt v (pow_pos w), top_open w s s v (omega arith) k)
 
   module _ (n2 : ℕ) where
-    sound-facts : (cs : List ℕ) → SoundKey w s n1 n2 cs → Facts w s n1 [] cs
-    sound-facts cs k = record {
+    sound_facts : (cs : List ℕ) → SoundKey w s n1 n2 cs → Facts w s n1 [] cs
+    sound_facts cs k = record {
       words = λ i l. k.words i (into i l);
       layer = λ i l. rw zero-add (at i l (dec_lt i n1));
       fresh = λ i l. refl;
@@ -82,36 +82,36 @@ module _ (w s n1 : ℕ) where
     -- where every word is open, every unit factor is
     all_open_lem : (a b : ℕ) → ((v : ℕ) → v < 2 ^ (w + s) → Open (w ∷ s ∷ []) (a ∷ b ∷ []) v) → (w ≤ a) × (s ≤ b)
     all_open_lem a b any =
-        let low : 2 ^ w - 1 < 2 ^ a = subst (λ (z : ℕ). z < 2 ^ a) (mod-eq_of_lt (top w)) (any (2 ^ w - 1) below-w).0 in
-        let high : 2 ^ s - 1 < 2 ^ b = subst (λ (z : ℕ). z < 2 ^ b) (up_div w (2 ^ s - 1)) (top_from w s b ((2 ^ s - 1) * 2 ^ w) (any ((2 ^ s - 1) * 2 ^ w) below-s).1) in
+        let low : 2 ^ w - 1 < 2 ^ a = subst (λ (z : ℕ). z < 2 ^ a) (mod-eq_of_lt (top w)) (any (2 ^ w - 1) below_w).0 in
+        let high : 2 ^ s - 1 < 2 ^ b = subst (λ (z : ℕ). z < 2 ^ b) (up_div w (2 ^ s - 1)) (top_from w s b ((2 ^ s - 1) * 2 ^ w) (any ((2 ^ s - 1) * 2 ^ w) below_s).1) in
         (exp_le w a (omega arith), exp_le s b (omega arith))
       where
         top : (k : ℕ) → 2 ^ k - 1 < 2 ^ k
         top k = omega (arith, pow_pos k)
 
-        below-w : 2 ^ w - 1 < 2 ^ (w + s)
-        below-w = let m : 2 ^ w ≤ 2 ^ (w + s) = pow_mono (omega arith) in omega (arith, pow_pos w)
+        below_w : 2 ^ w - 1 < 2 ^ (w + s)
+        below_w = let m : 2 ^ w ≤ 2 ^ (w + s) = pow_mono (omega arith) in omega (arith, pow_pos w)
 
-        below-s : (2 ^ s - 1) * 2 ^ w < 2 ^ (w + s)
-        below-s = subst (λ (z : ℕ). (2 ^ s - 1) * 2 ^ w < 2 ^ z) (omega arith) (shl_lt s w (top s))
+        below_s : (2 ^ s - 1) * 2 ^ w < 2 ^ (w + s)
+        below_s = subst (λ (z : ℕ). (2 ^ s - 1) * 2 ^ w < 2 ^ z) (omega arith) (shl_lt s w (top s))
 
-    standard-goes : (cs : List ℕ) → StandardKey w s n1 n2 cs → Goes w s n1 [] none_open cs (all_open w s)
-    standard-goes cs k =
-        let r = read_goes w s n1 [] k.read (sound-facts cs k.sound) in
+    standard_goes : (cs : List ℕ) → StandardKey w s n1 n2 cs → Goes w s n1 [] none_open cs (all_open w s)
+    standard_goes cs k =
+        let r = read_goes w s n1 [] k.read (sound_facts cs k.sound) in
         let q : Opened = r.0 in
         let t = goes_to cs [] none_open q (omega arith) r.1 in
         let f = to_fits (w ∷ s ∷ []) t no_fits in
         let any : (v : ℕ) → v < 2 ^ (w + s) → Open (w ∷ s ∷ []) (counted q) v =
         λ v h.
-        let e = an_effect (w ∷ s ∷ []) cs (sound-to w s n1 n2 cs k.sound).full v (subst (λ (z : ℕ). v < 2 ^ z) (omega arith) h) in
+        let e = an_effect (w ∷ s ∷ []) cs (sound_to w s n1 n2 cs k.sound).full v (subst (λ (z : ℕ). v < 2 ^ z) (omega arith) h) in
         subst (Open (w ∷ s ∷ []) (counted q)) e.2 (inside (w ∷ s ∷ []) t no_fits 0 e.0 (open_0 (w ∷ s ∷ []) (0 ∷ 0 ∷ []) no_fits)) in
         let l = all_open_lem q.whole q.sub any in
         let e : q.whole ≡ w = omega (arith, f.0, l.0) in
         let e' : q.sub ≡ s = omega (arith, f.1.0, l.1) in
         subst₂ (λ (x y : ℕ). Goes w s n1 [] none_open cs (record { whole = x; sub = y })) e e' r.1
 
-    goes-standard : (cs : List ℕ) → length cs ≡ n1 + n2 → Goes w s n1 [] none_open cs (all_open w s) → StandardKey w s n1 n2 cs
-    goes-standard cs size g =
+    goes_standard : (cs : List ℕ) → length cs ≡ n1 + n2 → Goes w s n1 [] none_open cs (all_open w s) → StandardKey w s n1 n2 cs
+    goes_standard cs size g =
         let f = goes_facts w s n1 cs [] none_open (all_open w s) g in
         let t = goes_to cs [] none_open (all_open w s) (omega arith) g in
         record {
@@ -128,16 +128,16 @@ module _ (w s n1 : ℕ) where
           read = goes_read w s n1 cs [] none_open (all_open w s) g;
         }
 
-    pub keys-listed : Listed (Standard (w ∷ s ∷ []) (homes (n1 ∷ n2 ∷ []))) (keys_from w s n1 (n1 + n2) [] none_open)
-    keys-listed = record {
+    pub keys_listed : Listed (Standard (w ∷ s ∷ []) (homes (n1 ∷ n2 ∷ []))) (keys_from w s n1 (n1 + n2) [] none_open)
+    keys_listed = record {
       members = λ cs. (
-        λ h. let r = in_goes w s n1 (n1 + n2) [] none_open cs h in standard-to w s n1 n2 cs (subst (StandardKey w s n1 n2) (sym r.2) (goes-standard r.0 r.1 r.3)),
+        λ h. let r = in_goes w s n1 (n1 + n2) [] none_open cs h in standard_to w s n1 n2 cs (subst (StandardKey w s n1 n2) (sym r.2) (goes_standard r.0 r.1 r.3)),
         λ k.
-            let key = standard-from w s n1 n2 cs k in
-            subst (λ (r : ℕ). In cs (keys_from w s n1 r [] none_open)) key.sound.size (goes_in w s n1 cs [] none_open (standard-goes cs key)),
+            let key = standard_from w s n1 n2 cs k in
+            subst (λ (r : ℕ). In cs (keys_from w s n1 r [] none_open)) key.sound.size (goes_in w s n1 cs [] none_open (standard_goes cs key)),
       );
       rising = keys_rise w s n1 (n1 + n2) [] none_open;
     }
 
 pub listing_fact : ListingFact
-listing_fact shape = keys-listed shape.w shape.s shape.n1 shape.n2
+listing_fact shape = keys_listed shape.w shape.s shape.n1 shape.n2

@@ -68,13 +68,13 @@ module _ (begun : Begun) where
   -- ---- the branch of one word
   module _ (c : ℕ) where
     -- it may not stand next
-    pub no-branch : next_in counts o c ≡ None → branch_after counts o c ≡ []
-    no-branch e = rw e
+    pub no_branch : next_in counts o c ≡ None → branch_after counts o c ≡ []
+    no_branch e = rw e
 
     -- after the last column; the code reads the shape and tests what is open
-    pub last-branch : (p : Opened) → next_in counts o c ≡ Some p → factors_of counts.shape - length (columns_in counts) ≤ 1
+    pub last_branch : (p : Opened) → next_in counts o c ≡ Some p → factors_of counts.shape - length (columns_in counts) ≤ 1
         → (read : Shape) → read ≡ counts.shape → (all : Bool) → all ≡ is_all read.w read.s p → branch_after counts o c ≡ cond all ((columns_in counts ++ c ∷ []) ∷ []) []
-    last-branch p e l read same all is =
+    last_branch p e l read same all is =
         ap (λ q. go_on q (keys_from counts.shape.w counts.shape.s counts.shape.n1 (factors_of counts.shape - length (columns_in counts) - 1) (columns_in counts ++ c ∷ []))) e
         ∙ leaf counts.shape.w counts.shape.s counts.shape.n1 (columns_in counts ++ c ∷ []) p (factors_of counts.shape - length (columns_in counts) - 1) (omega arith)
         ∙ ap (λ (b : Bool). cond b ((columns_in counts ++ c ∷ []) ∷ []) []) (sym (subst (λ (sh : Shape). all ≡ is_all sh.w sh.s p) same is))
@@ -86,8 +86,8 @@ module _ (begun : Begun) where
           ap₂ (λ (sh : Shape) (xs : List ℕ). factors_of sh - length xs) same grown
           ∙ omega (arith, few, length_push (columns_in counts) c)
 
-      pub some-branch : (p : Opened) → next_in counts o c ≡ Some p → branch_after counts o c ≡ keys_after more p
-      some-branch p e =
+      pub some_branch : (p : Opened) → next_in counts o c ≡ Some p → branch_after counts o c ≡ keys_after more p
+      some_branch p e =
           ap (λ q. go_on q (keys_from counts.shape.w counts.shape.s counts.shape.n1 (factors_of counts.shape - length (columns_in counts) - 1) (columns_in counts ++ c ∷ []))) e
           ∙ ap₂ (λ (r : ℕ) (xs : List ℕ). keys_from counts.shape.w counts.shape.s counts.shape.n1 r xs p) (sym one_left) (sym grown)
           ∙ ap (λ (sh : Shape). keys_from sh.w sh.s sh.n1 (factors_of more.shape - length (columns_in more)) (columns_in more) p) (sym same)

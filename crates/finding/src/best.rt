@@ -17,8 +17,8 @@ use wishes::standing::Standing;
 /// none is found, no sound key meets them.
 pub fn first_best<R: Ranking>(ranking: &R, standing: &Standing) -> Option<Key>
     ensures shape { IfSome result (λ key. key.shape ≡ standing.now.shape) }
-    ensures found { Finding columns_of (Wished standing.now.shape (wishes_in standing.now)) (by_tally standing.now.shape (scored ranking.now) (ranked ranking.now)) result }
-    ensures sound { FindingSound columns_of standing.now.shape (wishes_in standing.now) (by_tally standing.now.shape (scored ranking.now) (ranked ranking.now)) result }
+    ensures found { Finding columns_of (Wished standing.now.shape (wishes_in standing.now)) (by_tally standing.now.shape (R.scored ranking.now) (R.ranked ranking.now)) result }
+    ensures sound { FindingSound columns_of standing.now.shape (wishes_in standing.now) (by_tally standing.now.shape (R.scored ranking.now) (R.ranked ranking.now)) result }
 {
     let best = first_best_columns(ranking, standing)?;
     Key::new(standing.shape(), best.columns())

@@ -31,7 +31,7 @@ pub struct Judge<'a, R: Ranking> {
 impl<'a, R: Ranking> Judge<'a, R> {
     /// Whether a score is better than that of the best so far, or there is none.
     fn is_beaten_by(&self, score: &R::Score) -> bool
-        ensures { result ≡ beats (ranked self.now.ranking.now) self.now.best score.now }
+        ensures { result ≡ beats (R.ranked self.now.ranking.now) self.now.best score.now }
     {
         match &self.best {
             Some(best) => match self.ranking.compare(score, &best.score) {
@@ -44,7 +44,7 @@ impl<'a, R: Ranking> Judge<'a, R> {
 }
 
 impl<'a, R: Ranking> Visit for Judge<'a, R> {
-    ghost saw = { λ shape u keys v. (v.ranking.now ≡ u.ranking.now) × (v.standing.now ≡ u.standing.now) × KeepsPassing shape (wishes_in u.standing.now) (R.Ranking.scored u.ranking.now) (R.Ranking.ranked u.ranking.now) keys v.best };
+    ghost saw = { λ shape u keys v. (v.ranking.now ≡ u.ranking.now) × (v.standing.now ≡ u.standing.now) × KeepsPassing shape (wishes_in u.standing.now) (R.scored u.ranking.now) (R.ranked u.ranking.now) keys v.best };
 
     /// The wishes are asked last, since few keys are better than the best so far.
     fn visit(&mut self, counts: &Counts, column: u8) {
@@ -71,7 +71,7 @@ impl<'a, R: Ranking> Visit for Judge<'a, R> {
 /// The columns of the first best standard key that meets the standing wishes; none where no standard
 /// key does.
 pub fn first_best_columns<'a, R: Ranking>(ranking: &'a R, standing: &'a Standing) -> Option<Counts>
-    ensures { Finding columns_in (Wished standing.now.shape (wishes_in standing.now)) (by_tally standing.now.shape (scored ranking.now) (ranked ranking.now)) result }
+    ensures { Finding columns_in (Wished standing.now.shape (wishes_in standing.now)) (by_tally standing.now.shape (R.scored ranking.now) (R.ranked ranking.now)) result }
 {
     let mut judge = Judge {
         ranking,

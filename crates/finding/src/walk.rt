@@ -9,7 +9,7 @@ use opening::Shape;
 
 /// Hands the standard keys that begin with these columns to the visitor.
 fn walk<V: Visit>(begun: &Begun, visitor: &mut V)
-    ensures { (u : V) (keys : List (List ℕ)) → saw begun.now.counts.shape u keys visitor.old → saw begun.now.counts.shape u (keys ++ keys_after begun.now.counts begun.now.opened) visitor.new }
+    ensures { (u : V) (keys : List (List ℕ)) → V.saw begun.now.counts.shape u keys visitor.old → V.saw begun.now.counts.shape u (keys ++ keys_after begun.now.counts begun.now.opened) visitor.new }
 {
     if begun.is_late() || visitor.leave(&begun.counts) {
         return;
@@ -28,7 +28,7 @@ fn walk<V: Visit>(begun: &Begun, visitor: &mut V)
 
 /// Hands every standard key of the shape to the visitor, in rising dictionary order.
 pub fn visit_standard_keys<V: Visit>(shape: Shape, visitor: &mut V)
-    ensures { (u : V) (keys : List (List ℕ)) → saw shape u keys visitor.old → saw shape u (keys ++ standard_keys shape) visitor.new }
+    ensures { (u : V) (keys : List (List ℕ)) → V.saw shape u keys visitor.old → V.saw shape u (keys ++ standard_keys shape) visitor.new }
 {
     walk(&Begun::new(shape), visitor);
 }

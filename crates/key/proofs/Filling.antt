@@ -49,8 +49,8 @@ module _ (key : Key) (v i : ℕ) (old : List ℕ) (many : ℕ) (out : List ℕ) 
         (class_size (layers_of key.shape) (homes_of key.shape) (columns_of key) (sound_of key) v word)
 
     -- there is room for one more effect of the chain
-    pub held-room : i < 2 ^ factors_of key.shape → word_of key i ≡ v → many < size_of_chain key.shape
-    held-room low is =
+    pub held_room : i < 2 ^ factors_of key.shape → word_of key i ≡ v → many < size_of_chain key.shape
+    held_room low is =
         let p : ℕ → Bool = has_alias (columns_of key) v in
         let one : ◌≡◌ {A = ℕ} (cond (p i) 1 0) 1 = ap {B = ℕ} (λ (b : Bool). cond b 1 0) (eq-eqb (word_of key i) v is) in
         omega (arith, held.0, length_kept p i, one, count_mono p (suc i) (2 ^ factors_of key.shape) low, size)

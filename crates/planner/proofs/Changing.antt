@@ -32,13 +32,13 @@ use Rattle.planner.proofs.Going.{goes}
 
 -- planners with the same ranking, wishes and plan are the same
 pub same_planner : {R : Type 0} (a b : Planner R) → a.ranking ≡ b.ranking → a.standing ≡ b.standing → a.plan ≡ b.plan → a ≡ b
-same_planner a b r s p = λ i. record { ranking = r i; standing = s i; plan = p i; fits = fits-over i }
+same_planner a b r s p = λ i. record { ranking = r i; standing = s i; plan = p i; fits = fits_over i }
   where
     Fits : 𝕀 → Type 0
     Fits = λ i. factors_or (factors_of (s i).shape) (p i) ≡ factors_of (s i).shape
 
-    fits-over : PathP Fits a.fits b.fits
-    fits-over = to_path_p Fits (Coded-set coded_ℕ _ _ _ b.fits)
+    fits_over : PathP Fits a.fits b.fits
+    fits_over = to_path_p Fits (Coded-set coded_ℕ _ _ _ b.fits)
 
 module _ {R S : Type 0} (scored : R → Tally → S) (ranked : R → S → S → Verdict) (before after : Planner R) (same : after.ranking ≡ before.ranking) where
   abbrev shape : Shape
@@ -66,48 +66,48 @@ module _ {R S : Type 0} (scored : R → Tally → S) (ranked : R → S → S →
 
   module _ (kind e f : ℕ) where
     -- ---- adding
-    pub not-formed : (why : Refusal) (r : Result Effect Refusal) → forming n kind e f ≡ Err why → r ≡ Err why
+    pub not_formed : (why : Refusal) (r : Result Effect Refusal) → forming n kind e f ≡ Err why → r ≡ Err why
         → after.standing ≡ before.standing → after.plan ≡ before.plan → Goes scored ranked before (add kind e f r) after
-    not-formed why r is told standing-is plan-is =
+    not_formed why r is told standing-is plan-is =
         subst (λ (a : Result Effect Refusal). Goes scored ranked before (add kind e f a) after) (sym told)
         (unchanged (add kind e f (Err why)) (subst (λ (fr : Result Wish Refusal). Added shape wishes before.plan fr (Err why)) (sym is) refl) refl refl standing-is plan-is)
 
     module _ (wish : Wish) (is : forming n kind e f ≡ Ok wish) where
       -- its kind and numbers, and that it is formed
-      wish-is : (wish_of kind e f ≡ Some wish) × (formed n wish ≡ true)
-      wish-is = checked_ok n (second_fits kind f) (wish_of kind e f) wish is
+      wish_is : (wish_of kind e f ≡ Some wish) × (formed n wish ≡ true)
+      wish_is = checked_ok n (second_fits kind f) (wish_of kind e f) wish is
 
-      pub is-formed : formed n wish ≡ true
-      is-formed = wish-is.1
+      pub is_formed : formed n wish ≡ true
+      is_formed = wish_is.1
 
-      to-added : (a : Result Unit Refusal) (r : Result Effect Refusal) → adding n wishes wish ≡ a → AddedTo before.plan wish a r → Added shape wishes before.plan (forming n kind e f) r
-      to-added a r says to =
+      to_added : (a : Result Unit Refusal) (r : Result Effect Refusal) → adding n wishes wish ≡ a → AddedTo before.plan wish a r → Added shape wishes before.plan (forming n kind e f) r
+      to_added a r says to =
           subst (λ (fr : Result Wish Refusal). Added shape wishes before.plan fr r) (sym is)
           (subst (λ (x : Result Unit Refusal). AddedTo before.plan wish x r) (sym says) to)
 
-      pub not-added : (why : Refusal) (r : Result Effect Refusal) → adding n wishes wish ≡ Err why → r ≡ Err why
+      pub not_added : (why : Refusal) (r : Result Effect Refusal) → adding n wishes wish ≡ Err why → r ≡ Err why
           → after.standing ≡ before.standing → after.plan ≡ before.plan → Goes scored ranked before (add kind e f r) after
-      not-added why r says told standing-is plan-is =
+      not_added why r says told standing-is plan-is =
           subst (λ (a : Result Effect Refusal). Goes scored ranked before (add kind e f a) after) (sym told)
-          (unchanged (add kind e f (Err why)) (to-added (Err why) (Err why) says refl) refl refl standing-is plan-is)
+          (unchanged (add kind e f (Err why)) (to_added (Err why) (Err why) says refl) refl refl standing-is plan-is)
 
       pub added : (effect : Effect) → adding n wishes wish ≡ Ok tt → AddedBy before.plan wish (Ok effect)
           → (after.standing.shape ≡ shape) × (wishes_in after.standing ≡ wishes ++ wish ∷ [])
           → after.plan ≡ plan_after before.plan (add kind e f (Ok effect)) → Goes scored ranked before (add kind e f (Ok effect)) after
       added effect says by now plan-is =
-          goes scored ranked before after (add kind e f (Ok effect)) (to-added (Ok tt) (Ok effect) says by)
+          goes scored ranked before after (add kind e f (Ok effect)) (to_added (Ok tt) (Ok effect) says by)
           (record {
             ranking = same;
             shape = now.0;
-            wishes = now.1 ∙ ap (λ (o : Option Wish). wishes ++ wish_list o) (sym wish-is.0);
+            wishes = now.1 ∙ ap (λ (o : Option Wish). wishes ++ wish_list o) (sym wish_is.0);
             plan = plan-is;
             untouched = λ never. absurd never;
           })
 
       -- ---- striking
-      pub not-struck : (why : Refusal) (r : Result Effect Refusal) → striking wishes wish ≡ Err why → r ≡ Err why
+      pub not_struck : (why : Refusal) (r : Result Effect Refusal) → striking wishes wish ≡ Err why → r ≡ Err why
           → after.standing ≡ before.standing → after.plan ≡ before.plan → Goes scored ranked before (strike kind e f r) after
-      not-struck why r says told standing-is plan-is =
+      not_struck why r says told standing-is plan-is =
           subst (λ (a : Result Effect Refusal). Goes scored ranked before (strike kind e f a) after) (sym told)
           (unchanged (strike kind e f (Err why)) (sym (ap (strike_answer wishes before.plan) is ∙ ap (struck_by before.plan) says)) refl refl standing-is plan-is)
 
@@ -119,14 +119,14 @@ module _ {R S : Type 0} (scored : R → Tally → S) (ranked : R → S → S →
           (record {
             ranking = same;
             shape = now.0;
-            wishes = now.1 ∙ ap (λ (o : Option Wish). struck_from o wishes) (sym wish-is.0);
+            wishes = now.1 ∙ ap (λ (o : Option Wish). struck_from o wishes) (sym wish_is.0);
             plan = plan-is;
             untouched = λ never. absurd never;
           })
 
     -- what is not formed does not stand
-    pub none-struck : (why : Refusal) → forming n kind e f ≡ Err why → after.standing ≡ before.standing → after.plan ≡ before.plan → Goes scored ranked before (strike kind e f (Err WishAbsent)) after
-    none-struck why is standing-is plan-is =
+    pub none_struck : (why : Refusal) → forming n kind e f ≡ Err why → after.standing ≡ before.standing → after.plan ≡ before.plan → Goes scored ranked before (strike kind e f (Err WishAbsent)) after
+    none_struck why is standing-is plan-is =
         unchanged (strike kind e f (Err WishAbsent)) (sym (ap (strike_answer wishes before.plan) is)) refl refl standing-is plan-is
 
 -- ---- a wish tested on the standing plan

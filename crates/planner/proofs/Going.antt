@@ -9,7 +9,7 @@ use Rattle.ranking.specs.declared.verdict.Verdict.{Verdict}
 use Rattle.wishes.specs.Lists.{all_formed}
 use Rattle.wishes.specs.Standings.{wishes_in}
 use Rattle.finding.specs.Best.{by_tally}
-use Rattle.finding.proofs.Soundest.{first-is-best}
+use Rattle.finding.proofs.Soundest.{first_is_best}
 use Rattle.planner.specs.Entries.{Asked, Entry, ask}
 use Rattle.planner.specs.Rules.{Ruled, Answered, wishes_after, plan_after}
 use Rattle.planner.specs.Histories.{standing, plan_of, Lawful, Promise, ranks_of, Reached, Leaves, Goes}
@@ -41,7 +41,7 @@ module _ {R S : Type 0} (scored : R → Tally → S) (ranked : R → S → S →
     reached = reached;
     promise = λ h was.
         promise before.standing.shape (ranks_of scored ranked before)
-        (λ wishes formed cs. first-is-best before.standing.shape wishes formed (scored before.ranking) (ranked before.ranking) cs)
+        (λ wishes formed cs. first_is_best before.standing.shape wishes formed (scored before.ranking) (ranked before.ranking) cs)
         (entry ∷ h) (lawful h was);
   }
 

@@ -14,7 +14,7 @@ use Rattle.ranking.specs.declared.verdict.Verdict.{Verdict}
 use Rattle.wishes.specs.Forms.{wish_of, forming, checked, second_fits}
 use Rattle.wishes.specs.Lists.{all_formed, same_wish}
 use Rattle.wishes.proofs.Listed.{formed_push, formed_kept}
-use Rattle.finding.proofs.Soundest.{best-fewer}
+use Rattle.finding.proofs.Soundest.{best_fewer}
 use Rattle.wishes.specs.Standings.{adding}
 use Rattle.finding.specs.Best.{FirstBest, Wished, BestSound, NoSound}
 use Rattle.planner.specs.declared.effect.Effect.{Effect}
@@ -100,7 +100,7 @@ module _ (shape : Shape) (ranks : List ℕ → List ℕ → Verdict)
       let g = granted_wish kind x y (standing h) (plan_of h) Stays (forming n kind x y) refl l.0 in
       let before = plan_best h l.1 plan e in
       subst (λ (o : Option Wish). Best (standing h ++ wish_list o) plan) (sym g.1)
-      (before.0, best-fewer shape (standing h) g.0 ranks (columns_of plan) (subst (λ (of : Shape). Meets (layers_of of) (columns_of plan) g.0) before.0 (kept_meets (plan_of h) plan g.0 e g.3)) before.1)
+      (before.0, best_fewer shape (standing h) g.0 ranks (columns_of plan) (subst (λ (of : Shape). Meets (layers_of of) (columns_of plan) g.0) before.0 (kept_meets (plan_of h) plan g.0 e g.3)) before.1)
   plan_best (add kind x y (Ok Falls) ∷ h) l plan e = absurd (none_some plan e)
   plan_best (add kind x y (Err why) ∷ h) l plan e = plan_best h l.1 plan e
   plan_best (strike kind x y (Ok effect) ∷ h) l plan e = absurd (none_some plan e)

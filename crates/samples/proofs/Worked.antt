@@ -8,14 +8,14 @@ use Rattle.theory.specs.Tallies.{tally}
 use Rattle.theory.proofs.Twin.{twin_fact}
 use Rattle.finding.specs.Walks.{keys_from, all_keys}
 use Rattle.finding.specs.Listing.{In}
-use Rattle.finding.proofs.Standard.{keys-listed}
+use Rattle.finding.proofs.Standard.{keys_listed}
 use Rattle.samples.specs.Samples.{Left, layers, factors, Ap, Aq, pq, Apr, first, second, third, other, OneAndThree, OneAndOne, NoTwoAndOne, SampleFact}
 use Rattle.samples.proofs.Tested.{passed, meets, all_meet, sound_by, twins_by, passing, in_passing, passing_in}
 
 -- the standard keys are those that the walk gives
 standard_by : (w s n1 n2 : ℕ) (keys : List (List ℕ)) → all_keys w s n1 n2 ≡ keys → (key : List ℕ) → Standard (w ∷ s ∷ []) (homes (n1 ∷ n2 ∷ [])) key ↔ In key keys
 standard_by w s n1 n2 keys e key =
-    let m = (keys-listed w s n1 n2).members key in
+    let m = (keys_listed w s n1 n2).members key in
     (λ k. subst (In key) e (m.1 k), λ h. m.0 (subst (In key) (sym e) h))
 
 abbrev keys : List (List ℕ)

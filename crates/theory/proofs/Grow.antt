@@ -86,26 +86,26 @@ module _ (ws os : List ℕ) (f : Fits ws os) (φ : ℕ → ℕ) (g : Good ws os 
     abbrev ψ : ℕ → ℕ
     ψ x = φ x ⊕ m.at x * (φ d ⊕ c)
 
-    ψ-lin : (x y : ℕ) → ψ (x ⊕ y) ≡ ψ x ⊕ ψ y
-    ψ-lin x y =
+    ψ_lin : (x y : ℕ) → ψ (x ⊕ y) ≡ ψ x ⊕ ψ y
+    ψ_lin x y =
         ap₂ bit_xor (g.lin x y) (ap (λ (z : ℕ). z * (φ d ⊕ c)) (m.lin x y) ∙ times_xor (m.at x) (m.at y) (φ d ⊕ c) (m.bit x) (m.bit y))
         ∙ swap4 (φ x) (φ y) (m.at x * (φ d ⊕ c)) (m.at y * (φ d ⊕ c))
 
-    ψ-fit : (x : ℕ) → ψ x < 2 ^ total ws
-    ψ-fit x =
+    ψ_fit : (x : ℕ) → ψ x < 2 ^ total ws
+    ψ_fit x =
         xor_lt (total ws) (φ x) (m.at x * (φ d ⊕ c)) (g.fit x)
         (times_lt (total ws) (m.at x) (φ d ⊕ c) (m.bit x) (xor_lt (total ws) (φ d) c (g.fit d) hc))
 
-    ψ-same : (x : ℕ) → Open ws os x → ψ x ≡ φ x
-    ψ-same x o = ap (λ (z : ℕ). φ x ⊕ z * (φ d ⊕ c)) (m.off x o) ∙ ap (λ (z : ℕ). φ x ⊕ z) (zero-mul (φ d ⊕ c)) ∙ xor_zero_r (φ x)
+    ψ_same : (x : ℕ) → Open ws os x → ψ x ≡ φ x
+    ψ_same x o = ap (λ (z : ℕ). φ x ⊕ z * (φ d ⊕ c)) (m.off x o) ∙ ap (λ (z : ℕ). φ x ⊕ z) (zero-mul (φ d ⊕ c)) ∙ xor_zero_r (φ x)
 
-    ψ-took : ψ d ≡ c
-    ψ-took = ap (λ (z : ℕ). φ d ⊕ z * (φ d ⊕ c)) m.on ∙ ap (λ (z : ℕ). φ d ⊕ z) (one-mul (φ d ⊕ c)) ∙ cancel (φ d) c
+    ψ_took : ψ d ≡ c
+    ψ_took = ap (λ (z : ℕ). φ d ⊕ z * (φ d ⊕ c)) m.on ∙ ap (λ (z : ℕ). φ d ⊕ z) (one-mul (φ d ⊕ c)) ∙ cancel (φ d) c
 
-    ψ-keep : (x : ℕ) → Open ws os x ⊎ Open ws os (x ⊕ d) → Same ws x (ψ x)
-    ψ-keep x (inl o) = subst (λ (z : ℕ). Same ws x z) (sym (ψ-same x o)) (g.keep x o)
-    ψ-keep x (inr o) =
-        let e : ψ x ≡ φ (x ⊕ d) ⊕ c = ap ψ (sym (cancel_r x d)) ∙ ψ-lin (x ⊕ d) d ∙ ap₂ bit_xor (ψ-same (x ⊕ d) o) ψ-took in
+    ψ_keep : (x : ℕ) → Open ws os x ⊎ Open ws os (x ⊕ d) → Same ws x (ψ x)
+    ψ_keep x (inl o) = subst (λ (z : ℕ). Same ws x z) (sym (ψ_same x o)) (g.keep x o)
+    ψ_keep x (inr o) =
+        let e : ψ x ≡ φ (x ⊕ d) ⊕ c = ap ψ (sym (cancel_r x d)) ∙ ψ_lin (x ⊕ d) d ∙ ap₂ bit_xor (ψ_same (x ⊕ d) o) ψ_took in
         subst₂ (λ (y z : ℕ). Same ws y z) (cancel_r x d) (sym e) (k (x ⊕ d) o)
 
     new : Advance ws os φ c
@@ -114,12 +114,12 @@ module _ (ws os : List ℕ) (f : Fits ws os) (φ : ℕ → ℕ) (g : Good ws os 
           col = d;
           ps = ps;
           ψ = ψ;
-          good = record { lin = ψ-lin; fit = ψ-fit; keep = λ x o. ψ-keep x (next_open n x o) };
+          good = record { lin = ψ_lin; fit = ψ_fit; keep = λ x o. ψ_keep x (next_open n x o) };
           fits = next_fits n f;
           now = next_in_lem n;
           wide = widen n;
-          same = ψ-same;
-          took = ψ-took;
+          same = ψ_same;
+          took = ψ_took;
           read = λ ds r. opens n r;
         }
 

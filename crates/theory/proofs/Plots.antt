@@ -114,8 +114,8 @@ module _ (w s : ℕ) where
     abbrev pub fac : List ℕ
     fac = homes (n1 ∷ n2 ∷ [])
 
-    pub sound-to : (cs : List ℕ) → SoundKey w s n1 n2 cs → Sound lay fac cs
-    sound-to cs k =
+    pub sound_to : (cs : List ℕ) → SoundKey w s n1 n2 cs → Sound lay fac cs
+    sound_to cs k =
         record {
           size = k.size ∙ sym (length_homes n1 n2);
           words = λ i h. subst (λ (z : ℕ). get_or cs i 0 < 2 ^ z) (sym total_is) (k.words i (inn i h));
@@ -131,8 +131,8 @@ module _ (w s : ℕ) where
         own i h (yes l) = stratum_1 w s (get_or cs i 0) (k.whole i l).0 (k.whole i l).1 ∙ sym (home_whole n1 n2 i l)
         own i h (no l) = stratum_2 w s (get_or cs i 0) (k.sub i (omega arith) h) ∙ sym (home_sub n1 n2 i (omega arith) h)
 
-    pub sound-from : (cs : List ℕ) → Sound lay fac cs → SoundKey w s n1 n2 cs
-    sound-from cs k =
+    pub sound_from : (cs : List ℕ) → Sound lay fac cs → SoundKey w s n1 n2 cs
+    sound_from cs k =
         record {
           size = size;
           words = λ i h. subst (λ (z : ℕ). get_or cs i 0 < 2 ^ z) total_is (k.words i (inn i h));
@@ -148,14 +148,14 @@ module _ (w s : ℕ) where
         inn : (i : ℕ) → i < n1 + n2 → i < length cs
         inn i h = subst (λ (z : ℕ). i < z) (sym size) h
 
-    pub standard-to : (cs : List ℕ) → StandardKey w s n1 n2 cs → Standard lay fac cs
-    standard-to cs k = record { sound = sound-to cs k.sound; reads = read_to k.read (omega arith) }
+    pub standard_to : (cs : List ℕ) → StandardKey w s n1 n2 cs → Standard lay fac cs
+    standard_to cs k = record { sound = sound_to cs k.sound; reads = read_to k.read (omega arith) }
 
-    pub standard-from : (cs : List ℕ) → Standard lay fac cs → StandardKey w s n1 n2 cs
-    standard-from cs k = record { sound = sound-from cs k.sound; read = read_from k.reads }
+    pub standard_from : (cs : List ℕ) → Standard lay fac cs → StandardKey w s n1 n2 cs
+    standard_from cs k = record { sound = sound_from cs k.sound; read = read_from k.reads }
 
 pub two_layers_lem : TwoLayers
 two_layers_lem w s n1 n2 cs = (
-  (sound-from w s n1 n2 cs, sound-to w s n1 n2 cs),
-  (standard-from w s n1 n2 cs, standard-to w s n1 n2 cs),
+  (sound_from w s n1 n2 cs, sound_to w s n1 n2 cs),
+  (standard_from w s n1 n2 cs, standard_to w s n1 n2 cs),
 )

@@ -78,11 +78,11 @@ module _ (w a : ℕ) (ws os : List ℕ) (f : Fits (w ∷ ws) (a ∷ os)) (φ : �
   from_above : New ws os (up w φ) (c / 2 ^ w) → New (w ∷ ws) (a ∷ os) φ c
   from_above (d, ps, n, k) = (d * 2 ^ w, a ∷ ps, above (up_mod w d) (subst (λ (z : ℕ). Next ws os z ps) (sym (up_div w d)) n), meets)
     where
-      d-high : (x : ℕ) → (x ⊕ d * 2 ^ w) / 2 ^ w ≡ x / 2 ^ w ⊕ d
-      d-high x = xor_shr x (d * 2 ^ w) w ∙ ap (λ (z : ℕ). x / 2 ^ w ⊕ z) (up_div w d)
+      d_high : (x : ℕ) → (x ⊕ d * 2 ^ w) / 2 ^ w ≡ x / 2 ^ w ⊕ d
+      d_high x = xor_shr x (d * 2 ^ w) w ∙ ap (λ (z : ℕ). x / 2 ^ w ⊕ z) (up_div w d)
 
-      c-high : (x : ℕ) → Open (w ∷ ws) (a ∷ os) x → (φ x ⊕ c) / 2 ^ w ≡ up w φ (x / 2 ^ w) ⊕ c / 2 ^ w
-      c-high x o = xor_shr (φ x) c w ∙ ap (λ (z : ℕ). z ⊕ c / 2 ^ w) (up_high w a ws os f φ g x o)
+      c_high : (x : ℕ) → Open (w ∷ ws) (a ∷ os) x → (φ x ⊕ c) / 2 ^ w ≡ up w φ (x / 2 ^ w) ⊕ c / 2 ^ w
+      c_high x o = xor_shr (φ x) c w ∙ ap (λ (z : ℕ). z ⊕ c / 2 ^ w) (up_high w a ws os f φ g x o)
 
       apart : (x : ℕ) → Open (w ∷ ws) (a ∷ os) x → x / 2 ^ w ⊕ d ≡ 0 → ⊥
       apart x o e = next_apart n (subst (Open ws os) (same (x / 2 ^ w) d e) o.1)
@@ -90,10 +90,10 @@ module _ (w a : ℕ) (ws os : List ℕ) (f : Fits (w ∷ ws) (a ∷ os)) (φ : �
       meets : Meets (w ∷ ws) (a ∷ os) φ c (d * 2 ^ w)
       meets x o = (
         (
-          λ e. absurd (apart x o (sym (d-high x) ∙ ap (λ (z : ℕ). z / 2 ^ w) e ∙ div_0 w)),
-          λ e. absurd (apart x o ((same_0 ws (k (x / 2 ^ w) o.1)).1 (sym (c-high x o) ∙ ap (λ (z : ℕ). z / 2 ^ w) e ∙ div_0 w))),
+          λ e. absurd (apart x o (sym (d_high x) ∙ ap (λ (z : ℕ). z / 2 ^ w) e ∙ div_0 w)),
+          λ e. absurd (apart x o ((same_0 ws (k (x / 2 ^ w) o.1)).1 (sym (c_high x o) ∙ ap (λ (z : ℕ). z / 2 ^ w) e ∙ div_0 w))),
         ),
-        subst₂ (λ (y z : ℕ). Same ws y z) (sym (d-high x)) (sym (c-high x o)) (k (x / 2 ^ w) o.1),
+        subst₂ (λ (y z : ℕ). Same ws y z) (sym (d_high x)) (sym (c_high x o)) (k (x / 2 ^ w) o.1),
       )
 
   -- it does not: only the lowest layer is left
@@ -101,9 +101,9 @@ module _ (w a : ℕ) (ws os : List ℕ) (f : Fits (w ∷ ws) (a ∷ os)) (φ : �
     rest : ℕ
     rest = φ (t * 2 ^ w) ⊕ c
 
-    rest-high : rest / 2 ^ w ≡ 0
+    rest_high : rest / 2 ^ w ≡ 0
     unfolding rest
-    rest-high = xor_shr (φ (t * 2 ^ w)) c w ∙ xor_0 (up w φ t) (c / 2 ^ w) et
+    rest_high = xor_shr (φ (t * 2 ^ w)) c w ∙ xor_0 (up w φ t) (c / 2 ^ w) et
 
     o₀ : Open (w ∷ ws) (a ∷ os) (t * 2 ^ w)
     o₀ = open_up w a ws os t ot
@@ -122,34 +122,34 @@ module _ (w a : ℕ) (ws os : List ℕ) (f : Fits (w ∷ ws) (a ∷ os)) (φ : �
           exp_lt a w
           (room (2 ^ a) (2 ^ w) φ (λ y h. below w (φ y) (low_stays w a ws os f φ g y h))
           (λ y z hy hz e. good_inj (w ∷ ws) (a ∷ os) φ g y z (low_open w a ws os f y hy) (low_open w a ws os f z hz) e)
-          rest (below w rest rest-high) miss)
+          rest (below w rest rest_high) miss)
 
       next_low : (t * 2 ^ w + 2 ^ a) % 2 ^ w ≡ 2 ^ a
       next_low = low t w (pow-lt free)
 
-      next-high : (t * 2 ^ w + 2 ^ a) / 2 ^ w ≡ t
-      next-high = high t w (pow-lt free)
+      next_high : (t * 2 ^ w + 2 ^ a) / 2 ^ w ≡ t
+      next_high = high t w (pow-lt free)
 
-      d-high : (x : ℕ) → (x ⊕ (t * 2 ^ w + 2 ^ a)) / 2 ^ w ≡ (x ⊕ t * 2 ^ w) / 2 ^ w
-      d-high x =
-          xor_shr x (t * 2 ^ w + 2 ^ a) w ∙ ap (λ (z : ℕ). x / 2 ^ w ⊕ z) (next-high ∙ sym (up_div w t)) ∙ sym (xor_shr x (t * 2 ^ w) w)
+      d_high : (x : ℕ) → (x ⊕ (t * 2 ^ w + 2 ^ a)) / 2 ^ w ≡ (x ⊕ t * 2 ^ w) / 2 ^ w
+      d_high x =
+          xor_shr x (t * 2 ^ w + 2 ^ a) w ∙ ap (λ (z : ℕ). x / 2 ^ w ⊕ z) (next_high ∙ sym (up_div w t)) ∙ sym (xor_shr x (t * 2 ^ w) w)
 
-      c-high : (x : ℕ) → (φ x ⊕ c) / 2 ^ w ≡ φ (x ⊕ t * 2 ^ w) / 2 ^ w
-      c-high x =
+      c_high : (x : ℕ) → (φ x ⊕ c) / 2 ^ w ≡ φ (x ⊕ t * 2 ^ w) / 2 ^ w
+      c_high x =
           xor_shr (φ x) c w ∙ ap (λ (z : ℕ). φ x / 2 ^ w ⊕ z) (sym et) ∙ sym (xor_shr (φ x) (φ (t * 2 ^ w)) w)
           ∙ ap (λ (z : ℕ). z / 2 ^ w) (sym (g.lin x (t * 2 ^ w)))
 
-      not-d : (x : ℕ) → Open (w ∷ ws) (a ∷ os) x → x ⊕ (t * 2 ^ w + 2 ^ a) ≡ 0 → ⊥
-      not-d x o e =
+      not_d : (x : ℕ) → Open (w ∷ ws) (a ∷ os) x → x ⊕ (t * 2 ^ w + 2 ^ a) ≡ 0 → ⊥
+      not_d x o e =
           let k : x % 2 ^ w ≡ 2 ^ a = ap (λ (z : ℕ). z % 2 ^ w) (same x (t * 2 ^ w + 2 ^ a) e) ∙ next_low in
           omega (arith, o.0)
 
-      not-c : (x : ℕ) → Open (w ∷ ws) (a ∷ os) x → φ x ⊕ c ≡ 0 → ⊥
+      not_c : (x : ℕ) → Open (w ∷ ws) (a ∷ os) x → φ x ⊕ c ≡ 0 → ⊥
       unfolding rest
-      not-c x o e =
+      not_c x o e =
           let y : ℕ = x ⊕ t * 2 ^ w in
           let oy : Open (w ∷ ws) (a ∷ os) y = open_xor (w ∷ ws) (a ∷ os) x (t * 2 ^ w) o o₀ in
-          let z : y / 2 ^ w ≡ 0 = (same_0 ws (g.keep y oy).1).1 (sym (c-high x) ∙ ap (λ (z : ℕ). z / 2 ^ w) e ∙ div_0 w) in
+          let z : y / 2 ^ w ≡ 0 = (same_0 ws (g.keep y oy).1).1 (sym (c_high x) ∙ ap (λ (z : ℕ). z / 2 ^ w) e ∙ div_0 w) in
           let l : y < 2 ^ a = rw (sym (mod-eq_of_lt (below w y z))) oy.0 in
           miss y l (g.lin x (t * 2 ^ w) ∙ ap (λ (z : ℕ). z ⊕ φ (t * 2 ^ w)) (same (φ x) c e) ∙ xor_comm c (φ (t * 2 ^ w)))
 
@@ -157,10 +157,10 @@ module _ (w a : ℕ) (ws os : List ℕ) (f : Fits (w ∷ ws) (a ∷ os)) (φ : �
       fresh = (
         t * 2 ^ w + 2 ^ a,
         suc a ∷ os,
-        here free next_low (subst (Open ws os) (sym next-high) ot),
+        here free next_low (subst (Open ws os) (sym next_high) ot),
         λ x o. (
-          (λ e. absurd (not-d x o e), λ e. absurd (not-c x o e)),
-          subst₂ (λ (y z : ℕ). Same ws y z) (sym (d-high x)) (sym (c-high x))
+          (λ e. absurd (not_d x o e), λ e. absurd (not_c x o e)),
+          subst₂ (λ (y z : ℕ). Same ws y z) (sym (d_high x)) (sym (c_high x))
               (g.keep (x ⊕ t * 2 ^ w) (open_xor (w ∷ ws) (a ∷ os) x (t * 2 ^ w) o o₀)).1,
         ),
       )

@@ -77,16 +77,16 @@ module _ (ws ts cs : List ℕ) (s : Sound ws ts cs) where
   only : (es : List ℕ) → Standard ws ts es → Twins ws (length ts) cs es → es ≡ ds
   only es t w = unique ws t.reads standard.reads (t.sound.size ∙ sym sound.size) (λ x e o. at x e (none_0 ws x o))
     where
-      es-mod : (e : ℕ) → alias es (e % 2 ^ length ts) ≡ alias es e
-      es-mod e = subst (λ (m : ℕ). alias es (e % 2 ^ m) ≡ alias es e) t.sound.size (alias_mod es e)
+      es_mod : (e : ℕ) → alias es (e % 2 ^ length ts) ≡ alias es e
+      es_mod e = subst (λ (m : ℕ). alias es (e % 2 ^ m) ≡ alias es e) t.sound.size (alias_mod es e)
 
-      ds-mod : (e : ℕ) → alias ds (e % 2 ^ length ts) ≡ alias ds e
-      ds-mod e = subst (λ (m : ℕ). alias ds (e % 2 ^ m) ≡ alias ds e) sound.size (alias_mod ds e)
+      ds_mod : (e : ℕ) → alias ds (e % 2 ^ length ts) ≡ alias ds e
+      ds_mod e = subst (λ (m : ℕ). alias ds (e % 2 ^ m) ≡ alias ds e) sound.size (alias_mod ds e)
 
       one : (e : ℕ) → stratum ws (alias es e) ≡ stratum ws (alias ds e)
       one e =
-          ap (stratum ws) (sym (es-mod e)) ∙ sym (w.strata (e % 2 ^ length ts) (mod-lt e (pow_pos (length ts))))
-          ∙ strata (e % 2 ^ length ts) ∙ ap (stratum ws) (ds-mod e)
+          ap (stratum ws) (sym (es_mod e)) ∙ sym (w.strata (e % 2 ^ length ts) (mod-lt e (pow_pos (length ts))))
+          ∙ strata (e % 2 ^ length ts) ∙ ap (stratum ws) (ds_mod e)
 
       at : (x e : ℕ) → x ≡ 0 → Same ws (x ⊕ alias es e) (x ⊕ alias ds e)
       at x e z =

@@ -60,20 +60,20 @@ module _ (ws cs : List ℕ) where
     abbrev word : ℕ
     word = alias cs e
 
-    pub clear-met : members cs 1 word ≡ 0 → members cs 2 word ≤ 1 → Meets ws cs (Clear e)
-    clear-met none few f h at = (
+    pub clear_met : members cs 1 word ≡ 0 → members cs 2 word ≤ 1 → Meets ws cs (Clear e)
+    clear_met none few f h at = (
       λ one. count_none (counted 1 word) (2 ^ length cs) none f h (counted_from 1 word f one at),
       λ two. count_only (counted 2 word) (2 ^ length cs) e f below h (counted_from 2 word e pair refl) (counted_from 2 word f two at) few,
     )
 
-    pub clear-main : members cs 1 word ≢ 0 → Meets ws cs (Clear e) → ⊥
-    clear-main some met =
+    pub clear_main : members cs 1 word ≢ 0 → Meets ws cs (Clear e) → ⊥
+    clear_main some met =
         let k = count_some (counted 1 word) (2 ^ length cs) some in
         let is = counted_to 1 word k.0 k.2 in
         (met k.0 k.1 is.1).0 is.0
 
-    pub clear-other : 1 < members cs 2 word → Meets ws cs (Clear e) → ⊥
-    clear-other many met =
+    pub clear_other : 1 < members cs 2 word → Meets ws cs (Clear e) → ⊥
+    clear_other many met =
         let k = count_other (counted 2 word) (2 ^ length cs) e many in
         let is = counted_to 2 word k.0 k.2 in
         k.3 ((met k.0 k.1 is.1).1 is.0)

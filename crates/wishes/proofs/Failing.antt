@@ -15,7 +15,7 @@ use Rattle.theory.specs.Wishes.{Formed, Meets}
 use Rattle.theory.proofs.Defining.{resolution_fact}
 use Rattle.theory.proofs.Fronts.{front_fact}
 use Rattle.wishes.specs.Tests.{Fails, Passes, MetByNone, SomeFails, AllMetByNone}
-use Rattle.wishes.proofs.Counting.{clear-met, clear-main, clear-other, least_none, least_met, least_short}
+use Rattle.wishes.proofs.Counting.{clear_met, clear_main, clear_other, least_none, least_met, least_short}
 
 pub when_by : {P Q : Type 0} (b : Bool) → (b ≡ true → P) → (b ≡ false → Q) → MatchBool b P Q
 when_by true on off = on refl
@@ -43,7 +43,7 @@ module _ (ws cs : List ℕ) (wish : Wish) (formed : Formed (length cs) wish) whe
   pub clear_by_main : (e v x : ℕ) → wish ≡ Clear e → v ≡ alias cs e → x ≡ members cs 1 v → 0 < x → Unmet ws cs wish (ltb 0 x)
   clear_by_main e v x is word value some =
       subst (λ (y : Wish). Unmet ws cs y (ltb 0 x)) (sym is)
-      (when_by (ltb 0 x) (λ _. clear-main ws cs e of.0 of.1 (λ z. omega (arith, value, ap (members cs 1) word)))
+      (when_by (ltb 0 x) (λ _. clear_main ws cs e of.0 of.1 (λ z. omega (arith, value, ap (members cs 1) word)))
       (λ t. absurd (omega (arith, ltb-false 0 x t))))
     where
       of : Formed (length cs) (Clear e)
@@ -52,8 +52,8 @@ module _ (ws cs : List ℕ) (wish : Wish) (formed : Formed (length cs) wish) whe
   pub clear_by_other : (e v x y : ℕ) → wish ≡ Clear e → v ≡ alias cs e → x ≡ members cs 1 v → x ≤ 0 → y ≡ members cs 2 v → Unmet ws cs wish (ltb 1 y)
   clear_by_other e v x y is word value none others =
       subst (λ (z : Wish). Unmet ws cs z (ltb 1 y)) (sym is)
-      (when_by (ltb 1 y) (λ t. clear-other ws cs e of.0 of.1 (omega (arith, ltb-true 1 y t, ap (members cs 2) word)))
-      (λ t. clear-met ws cs e of.0 of.1 (omega (arith, ap (members cs 1) word)) (omega (arith, ltb-false 1 y t, ap (members cs 2) word))))
+      (when_by (ltb 1 y) (λ t. clear_other ws cs e of.0 of.1 (omega (arith, ltb-true 1 y t, ap (members cs 2) word)))
+      (λ t. clear_met ws cs e of.0 of.1 (omega (arith, ap (members cs 1) word)) (omega (arith, ltb-false 1 y t, ap (members cs 2) word))))
     where
       of : Formed (length cs) (Clear e)
       of = subst (Formed (length cs)) is formed

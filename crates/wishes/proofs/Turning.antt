@@ -61,13 +61,13 @@ formed_more {m} {n} h wish = go wish
     wider : (e : ℕ) → e < 2 ^ m → e < 2 ^ n
     wider e l = lt_of_lt_of_le l (pow_mono h)
 
-    low-more : (e : ℕ) → Low m e → Low n e
-    low-more e l = (wider e l.0, l.1, l.2)
+    low_more : (e : ℕ) → Low m e → Low n e
+    low_more e l = (wider e l.0, l.1, l.2)
 
     go : (wish : Wish) → Formed m wish → Formed n wish
     go (Clear e) k = (wider e k.0, k.1)
-    go (Apart e f) k = (k.0, low-more e k.1, low-more f k.2)
-    go (Fine e) k = low-more e k
+    go (Apart e f) k = (k.0, low_more e k.1, low_more f k.2)
+    go (Fine e) k = low_more e k
     go (Word e) k = (wider e k.0, k.1)
     go (Least r) k = k
 

@@ -13,7 +13,7 @@ use theory::tally::Tally;
 impl<R: Ranking> Planner<R> {
     /// The column of each factor, and how many they are.
     pub fn key(&self, out: &mut [u8]) -> Result<usize, Refusal>
-        ensures { Goes scored ranked self.now (ask (asked.key out.old result out.new)) self.now }
+        ensures { Goes R.scored R.ranked self.now (ask (asked.key out.old result out.new)) self.now }
     {
         match &self.plan {
             Some(plan) => plan.key(out),
@@ -23,7 +23,7 @@ impl<R: Ranking> Planner<R> {
 
     /// The sign of an effect in a run.
     pub fn sign(&self, effect: u16, run: u8) -> Result<Sign, Refusal>
-        ensures { Goes scored ranked self.now (ask (asked.sign effect run result)) self.now }
+        ensures { Goes R.scored R.ranked self.now (ask (asked.sign effect run result)) self.now }
     {
         match &self.plan {
             Some(plan) => plan.sign(effect, run),
@@ -33,7 +33,7 @@ impl<R: Ranking> Planner<R> {
 
     /// The unit word of an effect and its stratum.
     pub fn alias(&self, effect: u16) -> Result<(u8, u8), Refusal>
-        ensures { Goes scored ranked self.now (ask (asked.alias effect result)) self.now }
+        ensures { Goes R.scored R.ranked self.now (ask (asked.alias effect result)) self.now }
     {
         match &self.plan {
             Some(plan) => plan.alias(effect),
@@ -43,7 +43,7 @@ impl<R: Ranking> Planner<R> {
 
     /// The effects with the alias of this one, rising, and how many they are.
     pub fn chain(&self, effect: u16, out: &mut [u16]) -> Result<usize, Refusal>
-        ensures { Goes scored ranked self.now (ask (asked.chain effect out.old result out.new)) self.now }
+        ensures { Goes R.scored R.ranked self.now (ask (asked.chain effect out.old result out.new)) self.now }
     {
         match &self.plan {
             Some(plan) => plan.chain(effect, out),
@@ -53,7 +53,7 @@ impl<R: Ranking> Planner<R> {
 
     /// The figures that rankings read.
     pub fn tally(&self) -> Result<Tally, Refusal>
-        ensures { Goes scored ranked self.now (ask (asked.tally result)) self.now }
+        ensures { Goes R.scored R.ranked self.now (ask (asked.tally result)) self.now }
     {
         match &self.plan {
             Some(plan) => Ok(plan.tally()),
@@ -63,7 +63,7 @@ impl<R: Ranking> Planner<R> {
 
     /// The least length of a defining word; none where there is no such word.
     pub fn resolution(&self) -> Result<Option<u8>, Refusal>
-        ensures { Goes scored ranked self.now (ask (asked.resolution result)) self.now }
+        ensures { Goes R.scored R.ranked self.now (ask (asked.resolution result)) self.now }
     {
         match &self.plan {
             Some(plan) => Ok(plan.resolution()),
@@ -73,7 +73,7 @@ impl<R: Ranking> Planner<R> {
 
     /// The rows of the trial as text, and how long it is.
     pub fn layout(&self, out: &mut [u8]) -> Result<usize, Refusal>
-        ensures { Goes scored ranked self.now (ask (asked.layout out.old result out.new)) self.now }
+        ensures { Goes R.scored R.ranked self.now (ask (asked.layout out.old result out.new)) self.now }
     {
         match &self.plan {
             Some(plan) => plan.layout(out),

@@ -16,7 +16,7 @@ use wishes::meeting::fails;
 impl<R: Ranking> Planner<R> {
     /// Adds a wish of this kind with these numbers: a plan that meets it stays, another falls.
     pub fn add(&mut self, kind: u16, e: u16, f: u16) -> Result<Effect, Refusal>
-        ensures { Goes scored ranked self.old (add kind e f result) self.new }
+        ensures { Goes R.scored R.ranked self.old (add kind e f result) self.new }
     {
         let wish = form(self.standing.shape(), kind, e, f)?;
         self.standing.add(wish)?;
@@ -32,7 +32,7 @@ impl<R: Ranking> Planner<R> {
 
     /// Strikes the wish of this kind with these numbers: a standing plan falls.
     pub fn strike(&mut self, kind: u16, e: u16, f: u16) -> Result<Effect, Refusal>
-        ensures { Goes scored ranked self.old (strike kind e f result) self.new }
+        ensures { Goes R.scored R.ranked self.old (strike kind e f result) self.new }
     {
         let Ok(wish) = form(self.standing.shape(), kind, e, f) else {
             return Err(Refusal::WishAbsent);
@@ -49,7 +49,7 @@ impl<R: Ranking> Planner<R> {
 
     /// Puts the best key that meets the standing wishes in place as the plan.
     pub fn find(&mut self) -> Result<Key, Refusal>
-        ensures { Goes scored ranked self.old (find result) self.new }
+        ensures { Goes R.scored R.ranked self.old (find result) self.new }
     {
         let Some(key) = first_best(&self.ranking, &self.standing) else {
             return Err(Refusal::NoKey);

@@ -13,7 +13,7 @@ use wishes::standing::Standing;
 impl<R: Ranking> Planner<R> {
     /// A planner for a trial whose numbers were checked, without a wish and without a plan.
     pub fn of(shape: Shape, ranking: R) -> Planner<R>
-        ensures { Begins scored ranked shape ranking result }
+        ensures { Begins R.scored R.ranked shape ranking result }
     {
         Planner {
             ranking,
@@ -24,7 +24,7 @@ impl<R: Ranking> Planner<R> {
 
     /// A place as after opening 1 1 1 1 with this ranking.
     pub fn new(ranking: R) -> Planner<R>
-        ensures { BeginsWith scored ranked 1 1 1 1 ranking result }
+        ensures { BeginsWith R.scored R.ranked 1 1 1 1 ranking result }
     {
         Planner::of(
             Shape {
@@ -55,7 +55,7 @@ impl<R: Ranking> Planner<R> {
 impl<R: Ranking + Drop> Planner<R> {
     /// Opens a trial in this place with these numbers and this ranking: no wish and no plan stands.
     pub fn open(&mut self, w: u16, s: u16, n1: u16, n2: u16, ranking: R) -> Result<(), Refusal>
-        ensures { Opened scored ranked w s n1 n2 ranking result self.old self.new }
+        ensures { Opened R.scored R.ranked w s n1 n2 ranking result self.old self.new }
     {
         *self = Planner::of(Shape::new(w, s, n1, n2)?, ranking);
         Ok(())

@@ -4,15 +4,15 @@ use Rattle.figures.specs.Counted.{columns_in}
 use Rattle.key.specs.Questions.{columns_of, Making}
 use Rattle.wishes.specs.Standings.{wishes_in}
 use Rattle.finding.specs.Best.{by_tally, FirstBest, Finding, Wished}
-use Rattle.finding.proofs.Soundest.{made_shape, made_best, none_sound, finding-sound}
+use Rattle.finding.proofs.Soundest.{made_shape, made_best, none_sound, finding_sound}
 use Rattle.finding.proofs.best.first_best.Goals as goal
 
-pub returns-in-err-best : goal.returns-in-err-best
-returns-in-err-best g c =
+pub returns-in_err-best : goal.returns-in_err-best
+returns-in_err-best g c =
     let standing = c.args.standing.now in
     let ranks = by_tally standing.shape (g.R.Ranking.scored c.args.ranking.now) (g.R.Ranking.ranked c.args.ranking.now) in
-    let none = subst (Finding columns_in (Wished standing.shape (wishes_in standing)) ranks) c.in-err-best.was c.first-best-columns.ensures in
-    let e = c.from-residual.ensures in
+    let none = subst (Finding columns_in (Wished standing.shape (wishes_in standing)) ranks) c.in_err-best.was c.first_best_columns.ensures in
+    let e = c.from_residual.ensures in
     record { shape = rw e tt; found = rw e none; sound = rw e (none_sound standing.shape (wishes_in standing) standing.formed none) }
 
 pub returns : goal.returns
@@ -24,11 +24,11 @@ returns g c =
     let columns : List ℕ = c.columns.result.now in
     let best : FirstBest (Wished standing.shape (wishes_in standing)) ranks columns =
     subst (FirstBest (Wished standing.shape (wishes_in standing)) ranks) (sym c.columns.ensures)
-    (subst (Finding columns_in (Wished standing.shape (wishes_in standing)) ranks) c.in-ok-best.was c.first-best-columns.ensures) in
+    (subst (Finding columns_in (Wished standing.shape (wishes_in standing)) ranks) c.in_ok-best.was c.first_best_columns.ensures) in
     let made = subst (λ (shape : Shape). Making shape columns c.new.result) c.shape.ensures c.new.ensures in
     let found = made_best standing.shape (wishes_in standing) ranks columns best c.new.result made in
     record {
       shape = made_shape standing.shape columns c.new.result made;
       found = found;
-      sound = finding-sound standing.shape (wishes_in standing) standing.formed score ranked columns_of c.new.result found;
+      sound = finding_sound standing.shape (wishes_in standing) standing.formed score ranked columns_of c.new.result found;
     }

@@ -6,13 +6,13 @@ use Rattle.key.specs.declared.Key.{Key}
 use Rattle.wishes.specs.Forms.{forming}
 use Rattle.planner.specs.declared.effect.Effect.TheVariants.{NoPlan, Stays, Falls}
 use Rattle.planner.specs.Rules.{AddedBy}
-use Rattle.planner.proofs.Changing.{not-formed, not-added, added, is-formed, plan_stays, plan_falls}
+use Rattle.planner.proofs.Changing.{not_formed, not_added, added, is_formed, plan_stays, plan_falls}
 use Rattle.planner.proofs.planner.Planner.add.Goals as goal
 
 pub returns-in-err-wish : goal.returns-in-err-wish
 returns-in-err-wish g c =
     let told = err_from_is_err_and c.from-residual.result c.from-residual.ensures.1 in
-    not-formed g.R.Ranking.scored g.R.Ranking.ranked c.args.self.now _ refl c.args.kind c.args.e c.args.f
+    not_formed g.R.Ranking.scored g.R.Ranking.ranked c.args.self.now _ refl c.args.kind c.args.e c.args.f
     c.in-err-wish.field-0.0 c.from-residual.result
     (ap (λ (shape : Shape). forming (factors_of shape) c.args.kind c.args.e c.args.f) (sym c.shape.ensures) ∙ sym c.form.ensures ∙ c.in-err-wish.was)
     (told.1 ∙ ap Err told.2) refl refl
@@ -20,7 +20,7 @@ returns-in-err-wish g c =
 pub returns-in-err-add : goal.returns-in-err-add
 returns-in-err-add g c =
     let told = err_from_is_err_and c.from-residual-in-err-add.result c.from-residual-in-err-add.ensures.1 in
-    not-added g.R.Ranking.scored g.R.Ranking.ranked c.args.self.now _ refl c.args.kind c.args.e c.args.f
+    not_added g.R.Ranking.scored g.R.Ranking.ranked c.args.self.now _ refl c.args.kind c.args.e c.args.f
     c.in-ok-wish.wish
     (ap (λ (shape : Shape). forming (factors_of shape) c.args.kind c.args.e c.args.f) (sym c.shape.ensures) ∙ sym c.form.ensures ∙ c.in-ok-wish.was)
     c.in-err-add.field-0.0 c.from-residual-in-err-add.result
@@ -43,7 +43,7 @@ returns-in-Some g c =
     c.in-ok-wish.wish formed
     Stays (sym c.add.ensures.answer ∙ c.in-ok-add.was)
     (plan_stays c.args.self.now c.in-Some.plan c.in-Some.is c.in-ok-wish.wish
-    (is-formed g.R.Ranking.scored g.R.Ranking.ranked c.args.self.now c.args.self.now refl c.args.kind c.args.e c.args.f c.in-ok-wish.wish formed)
+    (is_formed g.R.Ranking.scored g.R.Ranking.ranked c.args.self.now c.args.self.now refl c.args.kind c.args.e c.args.f c.in-ok-wish.wish formed)
     c.counts.result c.counts.ensures.shape c.counts.ensures.columns c.if-not-fails.ensures.test)
     c.in-ok-add.ensures.after refl
 
@@ -54,6 +54,6 @@ returns-in-Some-2 g c =
     c.in-ok-wish.wish formed
     Falls (sym c.add.ensures.answer ∙ c.in-ok-add.was)
     (plan_falls c.args.self.now c.in-Some.plan c.in-Some.is c.in-ok-wish.wish
-    (is-formed g.R.Ranking.scored g.R.Ranking.ranked c.args.self.now c.args.self.now refl c.args.kind c.args.e c.args.f c.in-ok-wish.wish formed)
+    (is_formed g.R.Ranking.scored g.R.Ranking.ranked c.args.self.now c.args.self.now refl c.args.kind c.args.e c.args.f c.in-ok-wish.wish formed)
     c.counts.result c.counts.ensures.shape c.counts.ensures.columns c.if-not-fails.ensures.test)
     c.in-ok-add.ensures.after refl

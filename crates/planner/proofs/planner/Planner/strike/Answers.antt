@@ -6,12 +6,12 @@ use Rattle.key.specs.declared.Key.{Key}
 use Rattle.wishes.specs.Forms.{forming}
 use Rattle.planner.specs.declared.effect.Effect.TheVariants.{NoPlan, Falls}
 use Rattle.planner.specs.Rules.{struck_by}
-use Rattle.planner.proofs.Changing.{none-struck, not-struck, struck}
+use Rattle.planner.proofs.Changing.{none_struck, not_struck, struck}
 use Rattle.planner.proofs.planner.Planner.strike.Goals as goal
 
 pub returns-in-default : goal.returns-in-default
 returns-in-default g c =
-    none-struck g.R.Ranking.scored g.R.Ranking.ranked c.args.self.now _ refl c.args.kind c.args.e c.args.f
+    none_struck g.R.Ranking.scored g.R.Ranking.ranked c.args.self.now _ refl c.args.kind c.args.e c.args.f
     c.in-default.field-0
     (ap (λ (shape : Shape). forming (factors_of shape) c.args.kind c.args.e c.args.f) (sym c.shape.ensures) ∙ sym c.form.ensures ∙ c.in-default.is)
     refl refl
@@ -19,7 +19,7 @@ returns-in-default g c =
 pub returns-in-err-strike : goal.returns-in-err-strike
 returns-in-err-strike g c =
     let told = err_from_is_err_and c.from-residual.result c.from-residual.ensures.1 in
-    not-struck g.R.Ranking.scored g.R.Ranking.ranked c.args.self.now _ refl c.args.kind c.args.e c.args.f
+    not_struck g.R.Ranking.scored g.R.Ranking.ranked c.args.self.now _ refl c.args.kind c.args.e c.args.f
     c.in-Ok.wish
     (ap (λ (shape : Shape). forming (factors_of shape) c.args.kind c.args.e c.args.f) (sym c.shape.ensures) ∙ sym c.form.ensures ∙ c.in-Ok.is)
     c.in-err-strike.field-0.0 c.from-residual.result
