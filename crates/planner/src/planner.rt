@@ -5,11 +5,12 @@ ghost use Rattle.opening.specs.Shapes.{factors_of};
 ghost use Rattle.planner.specs.Plans.{factors_or};
 
 use key::Key;
+use std::alloc::AllocError;
 use wishes::standing::Standing;
 
 mod asking;
+mod beginning;
 mod changing;
-mod opening;
 
 /// A trial that was opened with one ranking, the wishes that stand, and the plan if one stands.
 #[derive(Drop)]
@@ -18,6 +19,12 @@ pub struct Planner<R> {
     standing: Standing,
     plan: Option<Key>,
     ghost fits: { factors_or (factors_of standing.shape) plan ≡ factors_of standing.shape },
+}
+
+impl<R: Copy> Clone for Planner<R> {
+    fn clone(&self) -> Result<Planner<R>, AllocError> {
+        Ok(*self)
+    }
 }
 
 impl<R: Copy> Copy for Planner<R> {}

@@ -5,10 +5,10 @@ use Rattle.planner.proofs.Changing.{unchanged}
 use Rattle.planner.proofs.Going.{goes}
 use Rattle.planner.proofs.planner.Planner.find.Goals as goal
 
-pub returns-in-default : goal.returns-in-default
-returns-in-default g c =
+pub returns-in_default : goal.returns-in_default
+returns-in_default g c =
     unchanged g.R.Ranking.scored g.R.Ranking.ranked c.args.self.now _ refl (find (Err NoKey))
-    (refl, c.in-default.ensures.sound) refl refl refl refl
+    (refl, c.in_default.ensures.sound) refl refl refl refl
 
 pub returns : goal.returns
 returns g c =

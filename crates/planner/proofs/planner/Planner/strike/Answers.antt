@@ -9,35 +9,35 @@ use Rattle.planner.specs.Rules.{struck_by}
 use Rattle.planner.proofs.Changing.{none_struck, not_struck, struck}
 use Rattle.planner.proofs.planner.Planner.strike.Goals as goal
 
-pub returns-in-default : goal.returns-in-default
-returns-in-default g c =
+pub returns-in_default : goal.returns-in_default
+returns-in_default g c =
     none_struck g.R.Ranking.scored g.R.Ranking.ranked c.args.self.now _ refl c.args.kind c.args.e c.args.f
-    c.in-default.field-0
-    (ap (λ (shape : Shape). forming (factors_of shape) c.args.kind c.args.e c.args.f) (sym c.shape.ensures) ∙ sym c.form.ensures ∙ c.in-default.is)
+    c.in_default.field-0
+    (ap (λ (shape : Shape). forming (factors_of shape) c.args.kind c.args.e c.args.f) (sym c.shape.ensures) ∙ sym c.form.ensures ∙ c.in_default.is)
     refl refl
 
-pub returns-in-err-strike : goal.returns-in-err-strike
-returns-in-err-strike g c =
-    let told = err_from_is_err_and c.from-residual.result c.from-residual.ensures.1 in
+pub returns-in_err-strike : goal.returns-in_err-strike
+returns-in_err-strike g c =
+    let told = err_from_is_err_and c.from_residual.result c.from_residual.ensures.1 in
     not_struck g.R.Ranking.scored g.R.Ranking.ranked c.args.self.now _ refl c.args.kind c.args.e c.args.f
     c.in-Ok.wish
     (ap (λ (shape : Shape). forming (factors_of shape) c.args.kind c.args.e c.args.f) (sym c.shape.ensures) ∙ sym c.form.ensures ∙ c.in-Ok.is)
-    c.in-err-strike.field-0.0 c.from-residual.result
-    (sym c.strike.ensures.answer ∙ c.in-err-strike.was)
-    (told.1 ∙ ap Err told.2) c.in-err-strike.ensures.after refl
+    c.in_err-strike.field-0.0 c.from_residual.result
+    (sym c.strike.ensures.answer ∙ c.in_err-strike.was)
+    (told.1 ∙ ap Err told.2) c.in_err-strike.ensures.after refl
 
 pub returns-in-None : goal.returns-in-None
 returns-in-None g c =
     struck g.R.Ranking.scored g.R.Ranking.ranked c.args.self.now _ refl c.args.kind c.args.e c.args.f
     c.in-Ok.wish
     (ap (λ (shape : Shape). forming (factors_of shape) c.args.kind c.args.e c.args.f) (sym c.shape.ensures) ∙ sym c.form.ensures ∙ c.in-Ok.is)
-    NoPlan (sym c.strike.ensures.answer ∙ c.in-ok-strike.was)
-    (ap (λ (plan : Option Key). struck_by plan (Ok tt)) c.in-None.is) c.in-ok-strike.ensures.after c.in-None.is
+    NoPlan (sym c.strike.ensures.answer ∙ c.in_ok-strike.was)
+    (ap (λ (plan : Option Key). struck_by plan (Ok tt)) c.in-None.is) c.in_ok-strike.ensures.after c.in-None.is
 
 pub returns-in-Some : goal.returns-in-Some
 returns-in-Some g c =
     struck g.R.Ranking.scored g.R.Ranking.ranked c.args.self.now _ refl c.args.kind c.args.e c.args.f
     c.in-Ok.wish
     (ap (λ (shape : Shape). forming (factors_of shape) c.args.kind c.args.e c.args.f) (sym c.shape.ensures) ∙ sym c.form.ensures ∙ c.in-Ok.is)
-    Falls (sym c.strike.ensures.answer ∙ c.in-ok-strike.was)
-    (ap (λ (plan : Option Key). struck_by plan (Ok tt)) c.in-Some.is) c.in-ok-strike.ensures.after refl
+    Falls (sym c.strike.ensures.answer ∙ c.in_ok-strike.was)
+    (ap (λ (plan : Option Key). struck_by plan (Ok tt)) c.in-Some.is) c.in_ok-strike.ensures.after refl
