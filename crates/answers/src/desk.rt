@@ -12,11 +12,10 @@ use spelling::answer::{Answer, Effects};
 use theory::refusal::Refusal;
 
 /// The planner that a sheet's orders go to.
+#[derive(Clone, Copy)]
 pub struct Desk {
     pub planner: Planner<Aberration>,
 }
-
-impl Copy for Desk {}
 
 /// The chain of an effect in a plan.
 fn chain_of(key: Key, effect: u16, line: usize) -> Answer

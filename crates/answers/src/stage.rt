@@ -21,6 +21,7 @@ use sheet::reader::Line;
 use spelling::answer::Answer;
 
 /// What the next line of a sheet is to be.
+#[derive(Clone, Copy)]
 pub enum Stage {
     /// The sheet is at fault as a whole, which its first answer tells.
     Unread(SheetFault),
@@ -33,8 +34,6 @@ pub enum Stage {
     /// Nothing: no further line is read.
     Over,
 }
-
-impl Copy for Stage {}
 
 /// Reads the opening line.
 fn opened(line: Line<'_>) -> Result<(Answer, Stage), LineFault>

@@ -18,5 +18,5 @@ returns c =
     let r : Outcome LineFault = Ok (answer, at.Orders after) in
     let line = c.number-number.ensures in
     subst (λ (shape : Shape). Ordered desk c.args.line.number (commands shape.n1 shape.n2 c.args.line.number (words_left c.args.line)) r) c.shape-shape.ensures
-    (subst (λ (read : Result Command LineFault). Ordered desk c.args.line.number read r) c.in-ok-command.ensures
-    (answer, (after, subst (λ (n : ℕ). Obeyed desk c.in-ok-command.command n (answer_text answer) after) line c.obey-answer.ensures, refl)))
+    (subst (λ (read : Result Command LineFault). Ordered desk c.args.line.number read r) c.in_ok-command.ensures
+    (answer, (after, subst (λ (n : ℕ). Obeyed desk c.in_ok-command.command n (answer_text answer) after) line c.obey-answer.ensures, refl)))

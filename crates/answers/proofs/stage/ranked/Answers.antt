@@ -18,4 +18,4 @@ pub returns : goal.returns
 returns c =
     let desk : Desk = record { planner = c.of-planner.result } in
     let r : Outcome LineFault = Ok (Nothing, at.Orders desk) in
-    subst (λ (read : Result RankingName LineFault). Ranked c.args.shape read r) c.in-ok-read-ranking.ensures (begun _ c.args.shape desk c.of-planner.ensures)
+    subst (λ (read : Result RankingName LineFault). Ranked c.args.shape read r) c.in_ok-read_ranking.ensures (begun _ c.args.shape desk c.of-planner.ensures)

@@ -9,8 +9,8 @@ returns c =
     let at = c.args.at in
     let digits = three_digits c.args.column (omega arith) in
     let same = ap decimal c.from.ensures in
-    let a = onward_fits d at [] d at (codes " ") _ _ (start d at (omega arith)) (omega arith) c.put-bytes-end.ensures.after c.put-bytes-end.ensures.value in
-    let b = onward_fits d at _ _ _ (c.letter.result ∷ codes "=") _ _ a.0 (omega arith) c.put-bytes-end-2.ensures.after c.put-bytes-end-2.ensures.value in
-    let e = onward_fits d at _ _ _ (decimal c.from.result) _ _ b.0 (omega (arith, ap lib.ListN.length same)) c.put-number.ensures.after c.put-number.ensures.value in
+    let a = onward_fits d at [] d at (codes " ") _ _ (start d at (omega arith)) (omega arith) c.put_bytes-end.ensures.after c.put_bytes-end.ensures.value in
+    let b = onward_fits d at _ _ _ (c.letter.result ∷ codes "=") _ _ a.0 (omega arith) c.put_bytes-end-2.ensures.after c.put_bytes-end-2.ensures.value in
+    let e = onward_fits d at _ _ _ (decimal c.from.result) _ _ b.0 (omega (arith, ap lib.ListN.length same)) c.put_number.ensures.after c.put_number.ensures.value in
     let whole = reworded d at _ _ _ _ (ap₂ (λ (l : ℕ) (n : List ℕ). codes " " ++ (l ∷ codes "=") ++ n) c.letter.ensures same) e.0 in
     record { value = whole.ends; bound = omega (arith, ap lib.ListN.length same); after = whole.holds }

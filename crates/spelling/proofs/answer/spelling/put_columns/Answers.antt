@@ -9,7 +9,7 @@ loop-factor-init c = (start c.args.out.now c.args.at (omega arith), omega arith)
 
 pub loop-factor-preserved : goal.loop-factor-preserved
 loop-factor-preserved c = (
-  onward_text (λ i. column_text c.args.n1 i (get_or c.args.columns.now i 0)) c.args.out.now c.args.at _ _ c.loop-factor.factor _ _ c.loop-factor.invariant.0 (omega arith) c.put-column-end.ensures.after c.put-column-end.ensures.value,
+  onward_text (λ i. column_text c.args.n1 i (get_or c.args.columns.now i 0)) c.args.out.now c.args.at _ _ c.loop-factor.factor _ _ c.loop-factor.invariant.0 (omega arith) c.put_column-end.ensures.after c.put_column-end.ensures.value,
   omega arith,
 )
 

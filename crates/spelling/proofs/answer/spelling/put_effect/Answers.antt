@@ -16,7 +16,7 @@ returns c =
     let begun : Spaced c.if-place-gt0.out c.if-place-gt0.end =
     elim c.if-place-gt0.branch [
       | then-place-gt0 w ↦
-          let so = onward_fits d at [] d at (codes " ") _ _ (start d at (omega arith)) (omega arith) w.put-bytes-end.ensures.after w.put-bytes-end.ensures.value in
+          let so = onward_fits d at [] d at (codes " ") _ _ (start d at (omega arith)) (omega arith) w.put_bytes-end.ensures.after w.put_bytes-end.ensures.value in
           let later = ap (λ (b : Bool). cond b [] (codes " ")) (ne_eqb place 0 (λ z. omega (arith, w.if-place-gt0.true))) in
           subst₂ Spaced (sym w.out-is) (sym w.end-is) (reworded d at _ _ _ _ (sym later) so.0, omega (arith, so.1))
       | else-place-gt0 w ↦
@@ -24,5 +24,5 @@ returns c =
           subst₂ Spaced (sym w.out-is) (sym w.end-is) (reworded d at _ _ _ _ (sym first) (start d at (omega arith)), omega arith)
     ] in
     let letters = sixteen_letters c.args.n1 (get_or c.args.effects.now place 0) in
-    let all = onward_fits d at _ _ _ (letters_of c.args.n1 (get_or c.args.effects.now place 0)) _ _ begun.0 (omega (arith, begun.1)) c.put-letters.ensures.after c.put-letters.ensures.value in
+    let all = onward_fits d at _ _ _ (letters_of c.args.n1 (get_or c.args.effects.now place 0)) _ _ begun.0 (omega (arith, begun.1)) c.put_letters.ensures.after c.put_letters.ensures.value in
     record { value = all.0.ends; bound = omega (arith, begun.1, all.1); after = all.0.holds }

@@ -8,10 +8,10 @@ returns c =
     let d = c.args.out.now in
     let number = twenty_digits c.from.result (omega arith) in
     let line = twenty_digits c.args.line (omega arith) in
-    let a = onward_fits d 0 [] d 0 (codes "no ") _ _ (start d 0 (omega arith)) (omega arith) c.put-bytes-end.ensures.after c.put-bytes-end.ensures.value in
-    let b = onward_fits d 0 _ _ _ (decimal c.from.result) _ _ a.0 (omega arith) c.put-number-end.ensures.after c.put-number-end.ensures.value in
-    let e = onward_fits d 0 _ _ _ (codes " line ") _ _ b.0 (omega arith) c.put-bytes-end-2.ensures.after c.put-bytes-end-2.ensures.value in
-    let f = onward_fits d 0 _ _ _ (decimal c.args.line) _ _ e.0 (omega arith) c.put-number-end-2.ensures.after c.put-number-end-2.ensures.value in
-    let g = onward_fits d 0 _ _ _ (codes "\n") _ _ f.0 (omega arith) c.put-bytes.ensures.after c.put-bytes.ensures.value in
+    let a = onward_fits d 0 [] d 0 (codes "no ") _ _ (start d 0 (omega arith)) (omega arith) c.put_bytes-end.ensures.after c.put_bytes-end.ensures.value in
+    let b = onward_fits d 0 _ _ _ (decimal c.from.result) _ _ a.0 (omega arith) c.put_number-end.ensures.after c.put_number-end.ensures.value in
+    let e = onward_fits d 0 _ _ _ (codes " line ") _ _ b.0 (omega arith) c.put_bytes-end-2.ensures.after c.put_bytes-end-2.ensures.value in
+    let f = onward_fits d 0 _ _ _ (decimal c.args.line) _ _ e.0 (omega arith) c.put_number-end-2.ensures.after c.put_number-end-2.ensures.value in
+    let g = onward_fits d 0 _ _ _ (codes "\n") _ _ f.0 (omega arith) c.put_bytes.ensures.after c.put_bytes.ensures.value in
     let whole = reworded d 0 _ _ _ _ (ap (λ (n : ℕ). codes "no " ++ decimal n ++ codes " line " ++ decimal c.args.line ++ codes "\n") (c.from.ensures ∙ c.number.ensures)) g.0 in
     record { value = omega (arith, whole.ends); after = whole.holds; within = omega (arith, whole.ends, whole.within) }
