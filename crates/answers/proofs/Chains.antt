@@ -1,11 +1,11 @@
 -- The effects of a chain, as the chain question fills a buffer with them.
-use Rattle.std.proofs.Common.{◌≡◌, ℕ, ◌-◌, ◌^◌, Bool, true, false, List, [], ◌∷◌, ◌++◌, length, take, drop, Ok, Err, Result, sym, ap, ◌∙◌, subst, ap₂, arith}
+use Rattle.std.proofs.Common.{◌≡◌, ℕ, ◌-◌, ◌^◌, Bool, true, false, List, [], ◌∷◌, ◌++◌, length, take, Ok, Result, sym, ap, ◌∙◌, arith}
 use Rattle.std.proofs.lemmas.List.{take_at}
 use Rattle.theory.specs.declared.refusal.Refusal.{Refusal}
 use Rattle.theory.specs.declared.refusal.Refusal.TheVariants.{NoEffect, ShortBuffer}
 use Rattle.theory.specs.Chains.{chain}
 use Rattle.theory.proofs.ChainLaws.{chain_fact}
-use Rattle.opening.specs.Shapes.{layers_of, homes_of, units_of, factors_of, size_of_chain}
+use Rattle.opening.specs.Shapes.{layers_of, homes_of, units_of, size_of_chain}
 use Rattle.key.specs.Questions.{columns_of, word_of, granted, chain_answer, effect_check, room_check}
 use Rattle.key.specs.declared.Key.{Key}
 use Rattle.key.proofs.Soundness.{sound_of, length_columns, word_lt}

@@ -2,7 +2,7 @@
 --
 -- A line is given by its number and its words with their columns. It is read as its stage asks; a fault of the text is
 -- the outcome then.
-use Rattle.std.specs.Prelude.{◌≡◌, ℕ, List, [], Some, None, Ok, Err, Result, MatchResult, refl}
+use Rattle.std.specs.Prelude.{◌≡◌, ℕ, List, Ok, Err, Result}
 use Rattle.theory.specs.declared.refusal.Refusal.{Refusal}
 use Rattle.opening.specs.declared.Shape.{Shape}
 use Rattle.opening.specs.Shapes as shapes

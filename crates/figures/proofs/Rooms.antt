@@ -1,5 +1,5 @@
 -- What room for one more column says.
-use Rattle.std.proofs.Common.{◌≡◌, ℕ, ◌^◌, ◌<◌, ◌≤◌, Bool, true, false, ◌&&◌, ltb, lt_of_lt_of_le, arith, pow_mono, ltb-true}
+use Rattle.std.proofs.Common.{◌≡◌, ℕ, ◌^◌, ◌<◌, ◌≤◌, true, ltb, lt_of_lt_of_le, arith, pow_mono, ltb-true}
 use Rattle.std.proofs.lemmas.Bool.{and_parts}
 use Rattle.opening.specs.Shapes.{units_of}
 use Rattle.opening.specs.declared.Shape.{Shape}

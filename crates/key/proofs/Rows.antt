@@ -1,5 +1,5 @@
 -- The rows of a layout: how they are written, and how long they are at most.
-use Rattle.std.proofs.Common.{◌≡◌, ℕ, suc, ◌+◌, ◌*◌, ◌^◌, ◌<◌, ◌≤◌, List, [], ◌∷◌, ◌++◌, map, length, get_or, set, decimal, sym, refl, ap, ◌∙◌, lt_of_lt_of_le, mul-le-mul_right, suc-mul, mul-le-mul_left, mul-suc, add-one, arith, pow_mono, pow-add}
+use Rattle.std.proofs.Common.{◌≡◌, ℕ, suc, ◌+◌, ◌*◌, ◌^◌, ◌<◌, ◌≤◌, List, [], ◌∷◌, ◌++◌, map, length, get_or, set, decimal, sym, ap, ◌∙◌, lt_of_lt_of_le, mul-le-mul_right, suc-mul, mul-le-mul_left, mul-suc, add-one, arith, pow_mono, pow-add}
 use Rattle.std.specs.List.{range_with_len}
 use Rattle.std.proofs.lemmas.List.FromFn.{length-map-range_with_len, map-range_with_len_more}
 use Rattle.std.proofs.lemmas.Fmt.{length-decimal-le}

@@ -18,12 +18,12 @@ use Rattle.key.proofs.Soundness.{length_columns}
 use Rattle.ranking.specs.declared.verdict.Verdict.{Verdict}
 use Rattle.wishes.specs.Forms.{wish_of, forming, second_fits}
 use Rattle.wishes.specs.Lists.{without}
-use Rattle.wishes.specs.Standings.{wishes_in, adding, striking, Changed}
+use Rattle.wishes.specs.Standings.{wishes_in, adding, striking}
 use Rattle.wishes.specs.Tests.{Fails, Passes}
 use Rattle.planner.specs.declared.effect.Effect.{Effect}
-use Rattle.planner.specs.declared.effect.Effect.TheVariants.{NoPlan, Stays, Falls}
+use Rattle.planner.specs.declared.effect.Effect.TheVariants.{Stays, Falls}
 use Rattle.planner.specs.declared.planner.Planner.{Planner}
-use Rattle.planner.specs.Entries.{Entry, add, strike, find}
+use Rattle.planner.specs.Entries.{Entry, add, strike}
 use Rattle.planner.specs.Plans.{factors_or}
 use Rattle.planner.specs.Rules.{Ruled, Added, AddedTo, AddedBy, strike_answer, struck_by, wish_list, struck_from, wishes_after, plan_after}
 use Rattle.planner.specs.Histories.{ranks_of, Goes}

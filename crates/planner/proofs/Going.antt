@@ -1,18 +1,16 @@
 -- A call that is answered by the rules and leaves what they say goes on from every history.
-use Rattle.std.proofs.Common.{◌≡◌, ℕ, List, [], ◌∷◌, Option, sym, refl, ap, ◌∙◌, subst, ap₂}
+use Rattle.std.proofs.Common.{List, ◌∷◌, Option, sym, refl, ap, ◌∙◌, subst}
 use Rattle.theory.specs.declared.tally.Tally.{Tally}
 use Rattle.theory.specs.declared.wish.Wish.{Wish}
 use Rattle.opening.specs.declared.Shape.{Shape}
-use Rattle.opening.specs.Shapes.{factors_of}
 use Rattle.key.specs.declared.Key.{Key}
 use Rattle.ranking.specs.declared.verdict.Verdict.{Verdict}
-use Rattle.wishes.specs.Lists.{all_formed}
 use Rattle.wishes.specs.Standings.{wishes_in}
 use Rattle.finding.specs.Best.{by_tally}
 use Rattle.finding.proofs.Soundest.{first_is_best}
 use Rattle.planner.specs.Entries.{Asked, Entry, ask}
 use Rattle.planner.specs.Rules.{Ruled, Answered, wishes_after, plan_after}
-use Rattle.planner.specs.Histories.{standing, plan_of, Lawful, Promise, ranks_of, Reached, Leaves, Goes}
+use Rattle.planner.specs.Histories.{standing, Lawful, ranks_of, Reached, Leaves, Goes}
 use Rattle.planner.specs.declared.planner.Planner.{Planner}
 use Rattle.planner.proofs.Promises.{promise}
 

@@ -1,7 +1,7 @@
 -- Histories of calls, and what is promised after each. Assumes nothing.
 --
 -- A history is the list of the calls since the last granted opening with their answers, the newest first.
-use Rattle.std.specs.Prelude.{◌≡◌, ℕ, List, [], ◌∷◌, ◌++◌, Some, None, Ok, Err, Option, Result}
+use Rattle.std.specs.Prelude.{◌≡◌, ℕ, List, [], ◌∷◌, Some, None, Err, Option, Result}
 use Rattle.theory.specs.declared.refusal.Refusal.{Refusal}
 use Rattle.theory.specs.declared.refusal.Refusal.TheVariants.{NoKey}
 use Rattle.theory.specs.declared.tally.Tally.{Tally}

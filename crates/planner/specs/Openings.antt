@@ -1,5 +1,5 @@
 -- Places for a planner, and trials opened there. Assumes nothing.
-use Rattle.std.specs.Prelude.{◌≡◌, ℕ, List, [], Some, None, Ok, Err, Result}
+use Rattle.std.specs.Prelude.{◌≡◌, ℕ, [], Some, None, Ok, Err, Result}
 use Rattle.theory.specs.declared.refusal.Refusal.{Refusal}
 use Rattle.theory.specs.declared.tally.Tally.{Tally}
 use Rattle.opening.specs.declared.Shape.{Shape}

@@ -1,9 +1,9 @@
 -- What is printed of an effect is read back as that effect. Assumes nothing.
-use Rattle.std.proofs.Common.{◌≡◌, ℕ, zero, suc, ◌+◌, ◌-◌, ◌*◌, ◌/◌, ◌%◌, ◌^◌, ◌<◌, ◌≤◌, Bool, true, false, cond, eqb, leb, List, [], ◌∷◌, ◌++◌, Some, None, Option, sym, refl, ap, ◌∙◌, subst, ⊎_elim, mul_assoc, mul_comm, add-mul, one-mul, pow-suc, zero-mul, add-one, arith, ne_eqb, eqb-true, le-leb}
+use Rattle.std.proofs.Common.{◌≡◌, ℕ, zero, suc, ◌+◌, ◌-◌, ◌*◌, ◌/◌, ◌%◌, ◌^◌, ◌<◌, ◌≤◌, Bool, true, false, cond, eqb, List, [], ◌∷◌, ◌++◌, Some, None, Option, sym, refl, ap, ◌∙◌, subst, ⊎_elim, mul_assoc, mul_comm, add-mul, one-mul, pow-suc, zero-mul, add-one, arith, ne_eqb, eqb-true, le-leb}
 use borrow.Author.Tests.{eqb-false}
 use Rattle.std.proofs.lemmas.Bool.Decides.{nat_tests}
 use Rattle.std.proofs.str.Laws.{order}
-use Rattle.sheet.specs.Letters.{lettered, factor, given, join_on, effect_of, letter_of, letters_from, letters_of, LettersStand}
+use Rattle.sheet.specs.Letters.{lettered, factor, join_on, effect_of, letter_of, letters_from, letters_of, LettersStand}
 use Rattle.sheet.proofs.Spell.{from_next, from_none}
 
 abbrev value_or_0 : Option ℕ → ℕ

@@ -1,8 +1,8 @@
 -- A number that was printed is read back. Assumes nothing.
-use Rattle.std.proofs.Common.{◌≡◌, ℕ, zero, suc, ◌+◌, ◌-◌, ◌*◌, ◌/◌, ◌%◌, ◌^◌, ◌<◌, ◌≤◌, Bool, true, false, cond, ◌⊎◌, List, [], ◌∷◌, ◌++◌, length, get_or, Some, None, decimal, Option, sym, refl, ap, ◌∙◌, inl, inr, arith}
+use Rattle.std.proofs.Common.{◌≡◌, ℕ, zero, suc, ◌+◌, ◌-◌, ◌*◌, ◌/◌, ◌%◌, ◌^◌, ◌<◌, ◌≤◌, Bool, true, false, cond, List, [], ◌∷◌, ◌++◌, length, get_or, Some, None, decimal, Option, refl, ap, ◌∙◌, arith}
 use Rattle.std.proofs.lemmas.Fmt.{decimal_digit, decimal_by_steps, decimal_nonempty, length-decimal-le, first_decimal}
 use Rattle.sheet.specs.Letters.{given}
-use Rattle.sheet.specs.Numbers.{is_digit, digits_on, number_of, NumbersStand}
+use Rattle.sheet.specs.Numbers.{is_digit, digits_on, NumbersStand}
 use Rattle.sheet.proofs.Digit.{digit_yes, sized}
 
 -- one digit more at the end

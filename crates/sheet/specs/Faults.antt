@@ -1,9 +1,7 @@
 -- The number and the place of each fault, and how a fault ends what is read. Assumes nothing.
 use Rattle.std.specs.Prelude.{◌≡◌, ℕ, Ok, Err, Result, refl}
 use Rattle.sheet.specs.declared.fault.Place.{Place}
-use Rattle.sheet.specs.declared.fault.WordFault.{WordFault}
 use Rattle.sheet.specs.declared.fault.WordFault.TheVariants.{Unknown, Number, Letters}
-use Rattle.sheet.specs.declared.fault.LineFault.{LineFault}
 use Rattle.sheet.specs.declared.fault.LineFault.TheVariants.{Word, Count}
 use Rattle.sheet.specs.declared.fault.SheetFault.{SheetFault}
 use Rattle.sheet.specs.declared.fault.SheetFault.TheVariants.{Form, Line}

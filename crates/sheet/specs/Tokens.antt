@@ -1,5 +1,5 @@
 -- What a token says, and its fault where it says nothing. Assumes nothing.
-use Rattle.std.specs.Prelude.{◌≡◌, ℕ, List, Ok, Err, Result, refl}
+use Rattle.std.specs.Prelude.{◌≡◌, ℕ, List, Err, Result, refl}
 use Rattle.sheet.specs.Asks.{fixed_at, number_at, effect_at}
 use Rattle.sheet.specs.declared.fault.Place.{Place}
 use Rattle.sheet.specs.declared.fault.WordFault.{WordFault}

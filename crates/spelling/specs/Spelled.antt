@@ -7,7 +7,6 @@ use Rattle.theory.specs.Refusals.{refusal_number}
 use Rattle.theory.specs.declared.refusal.Refusal.{Refusal}
 use Rattle.theory.specs.declared.refusal.Refusal.TheVariants.{NoPlan, ShortBuffer}
 use Rattle.key.specs.Questions.{columns_of, layout_of}
-use Rattle.key.specs.declared.Key.{Key}
 use Rattle.sheet.specs.Faults.{fault_number, fault_place}
 use Rattle.sheet.specs.Letters.{letter_of, letters_of, letters_from}
 use Rattle.sheet.specs.declared.fault.SheetFault.{SheetFault}

@@ -1,10 +1,9 @@
 -- Twins have the same strata and the same chains, so they are alike in all that is read off these.
-use Rattle.std.proofs.Common.{◌≡◌, ℕ, ◌%◌, ◌^◌, ◌<◌, Bool, eqb, ◌↔◌, List, length, Option, sym, refl, ap, ◌∙◌, subst, ap₂, subst₂, mod-lt, pow_pos}
-use Rattle.theory.specs.declared.tally.Tally.{Tally}
+use Rattle.std.proofs.Common.{◌≡◌, ℕ, ◌%◌, ◌^◌, ◌<◌, Bool, eqb, List, length, sym, ap, ◌∙◌, subst, ap₂, mod-lt, pow_pos}
 use Rattle.theory.specs.declared.wish.Wish.{Wish}
 use Rattle.theory.specs.Words.{alias, stratum}
 use Rattle.theory.specs.Keys.{Sound, Twins}
-use Rattle.theory.specs.Alikes.{Alike, AlikeFact}
+use Rattle.theory.specs.Alikes.{AlikeFact}
 use Rattle.theory.proofs.Words.{alias_mod}
 use Rattle.theory.proofs.Tables.{same_test}
 use Rattle.theory.proofs.Views.{strata_of, shares, tally_by, resolution_by, chain_by, MeetsBy, tally_by_lem, resolution_by_lem, chain_by_lem, meets_by}

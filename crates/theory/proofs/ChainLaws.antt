@@ -1,5 +1,5 @@
 -- The chain laws of a sound key.
-use Rattle.std.proofs.Common.{◌≡◌, ℕ, ◌^◌, ◌<◌, List, length, ◌∙◌}
+use Rattle.std.proofs.Common.{ℕ, ◌^◌, ◌<◌, List, length, ◌∙◌}
 use Rattle.std.proofs.lemmas.Bool.{eq-eqb}
 use Rattle.theory.specs.Words.{total, alias}
 use Rattle.theory.specs.Keys.{Sound}

@@ -1,12 +1,12 @@
 -- Every unit word of a sound key is the alias of equally many effects.
-use Rattle.std.proofs.Common.{◌≡◌, ℕ, zero, suc, ◌+◌, ◌-◌, ◌*◌, ◌/◌, ◌%◌, ◌^◌, ◌<◌, ◌≤◌, Bool, true, false, cond, not, eqb, ◌⊎◌, List, [], ◌∷◌, ◌++◌, map, length, filter, sym, refl, ap, ◌∙◌, subst, ap₂, inl, inr, map-id, mod-lt, mod-eq_of_lt, add_comm, pow-suc, sub-add_cancel, add-one, arith, length-append, pow_pos, pow-add, shr_lt}
+use Rattle.std.proofs.Common.{◌≡◌, ℕ, zero, suc, ◌+◌, ◌-◌, ◌*◌, ◌/◌, ◌%◌, ◌^◌, ◌<◌, ◌≤◌, Bool, true, false, cond, eqb, ◌⊎◌, List, [], ◌∷◌, ◌++◌, length, filter, sym, refl, ap, ◌∙◌, subst, ap₂, inl, inr, map-id, mod-lt, mod-eq_of_lt, add_comm, pow-suc, sub-add_cancel, add-one, arith, length-append, pow_pos, pow-add, shr_lt}
 use native.Mathlib.Nat.{eq_of_mul-eq-mul_left}
 use lib.Bits.{bit_xor, xor_block, xor_self}
 use lib.Pow.{split}
 use Rattle.std.specs.List.{range_with_len}
 use Rattle.std.proofs.lemmas.List.{append-nil}
 use Rattle.std.proofs.lemmas.List.FromFn.{filter_of_map_range_with_len_more}
-use Rattle.std.proofs.lemmas.Bool.{cases_eq, cases_lt, eq-eqb, ne_eqb, eqb-true, eqb-false}
+use Rattle.std.proofs.lemmas.Bool.{cases_eq, eq-eqb, ne_eqb}
 use Rattle.theory.specs.Words.{total, alias}
 use Rattle.theory.specs.Keys.{Sound}
 use Rattle.theory.specs.Tallies.{count, sum_to}

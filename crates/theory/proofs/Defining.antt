@@ -1,13 +1,12 @@
 -- The defining words, and the least length of one.
-use Rattle.std.proofs.Common.{◌≡◌, ℕ, zero, suc, ◌+◌, ◌-◌, ◌*◌, ◌/◌, ◌%◌, ◌^◌, ◌<◌, ◌≤◌, Bool, true, false, cond, ◌&&◌, eqb, ◌≢◌, ◌⊎◌, ◌↔◌, List, [], ◌∷◌, length, get_or, Some, None, filter, Option, sym, refl, ap, ◌∙◌, subst, inl, inr, pow-suc, arith, pow_pos}
+use Rattle.std.proofs.Common.{◌≡◌, ℕ, zero, suc, ◌+◌, ◌-◌, ◌/◌, ◌%◌, ◌^◌, ◌<◌, ◌≤◌, Bool, true, false, cond, ◌&&◌, eqb, ◌≢◌, ◌⊎◌, List, ◌∷◌, length, get_or, Some, filter, sym, refl, ap, ◌∙◌, subst, inl, inr, pow-suc, arith, pow_pos}
 use lib.Count.{ones, ones_step, ones-le}
-use Rattle.std.specs.List.{range_with_len, ContainsAt as Has, AllByRecursion as All}
+use Rattle.std.specs.List.{range_with_len, ContainsAt as Has}
 use Rattle.std.proofs.lemmas.List.FromFn.{length-range_with_len, get_or-range_with_len}
 use Rattle.std.proofs.ByRecursion.{all-has, All-from_get_or, all_kept_by}
 use Rattle.std.proofs.lemmas.Bool.{cases_eq, cases_Bool, eq-eqb, ne_eqb, eqb-true, and_parts, and_from}
 use Rattle.theory.specs.Words.{total, alias}
-use Rattle.theory.specs.Keys.{Sound}
-use Rattle.theory.specs.Chains.{with_alias, chain}
+use Rattle.theory.specs.Chains.{with_alias}
 use Rattle.theory.specs.Tallies.{count, members, first_length, resolution}
 use Rattle.theory.specs.Laws.{Chained, Defining, defining_words, DefiningFact, Resolves, ResolutionFact}
 use Rattle.theory.proofs.Words.{alias_0}

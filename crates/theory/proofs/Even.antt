@@ -1,5 +1,5 @@
 -- With one subplot unit factor, every defining word has an even number of subplot factors.
-use Rattle.std.proofs.Common.{◌≡◌, ℕ, zero, suc, ◌+◌, ◌-◌, ◌*◌, ◌/◌, ◌%◌, ◌^◌, ◌<◌, ◌≤◌, List, [], ◌∷◌, ◌++◌, length, get_or, take, drop, sym, refl, ap, ◌∙◌, subst, ap₂, div-lt_iff_lt-mul, one-mul, pow-suc, zero-mul, add-one, arith, take-append-drop, pow_pos, pow-add}
+use Rattle.std.proofs.Common.{◌≡◌, ℕ, zero, suc, ◌+◌, ◌-◌, ◌*◌, ◌/◌, ◌%◌, ◌^◌, ◌<◌, ◌≤◌, List, [], ◌∷◌, length, get_or, take, drop, sym, refl, ap, ◌∙◌, subst, ap₂, div-lt_iff_lt-mul, one-mul, pow-suc, zero-mul, add-one, arith, take-append-drop, pow_pos, pow-add}
 use native.Mathlib.Decide.{dec_lt}
 use native.Mathlib.Nat.{zero-div, div-eq_of_lt, div-eq-sub-div}
 use lib.Bits.{bit_xor, xor_shr}

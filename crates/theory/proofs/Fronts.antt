@@ -1,14 +1,13 @@
 -- When a wish is formed, by tests; and wishes of the first factors.
-use Rattle.std.proofs.Common.{◌≡◌, ℕ, zero, suc, ◌*◌, ◌/◌, ◌%◌, ◌^◌, ◌<◌, ◌≤◌, Bool, true, ◌&&◌, eqb, ltb, leb, ◌↔◌, List, [], ◌∷◌, length, take, Decides, sym, ap, ◌∙◌, subst, lt_of_lt_of_le, pow-suc, arith, length-take, pow_mono}
+use Rattle.std.proofs.Common.{◌≡◌, ℕ, zero, suc, ◌*◌, ◌/◌, ◌%◌, ◌^◌, ◌<◌, ◌≤◌, Bool, ◌&&◌, eqb, ltb, leb, List, [], ◌∷◌, length, take, Decides, sym, ap, ◌∙◌, subst, lt_of_lt_of_le, pow-suc, arith, length-take, pow_mono}
 use native.Mathlib.Nat.{min-eq_left}
 use lib.Bits.{bit_xor}
 use lib.Count.{ones}
 use Rattle.std.proofs.lemmas.Bool.{leb-true, le-leb, and_parts, and_from}
 use Rattle.std.proofs.lemmas.Bool.Decides.{Decides-and, Decides-eqb, Decides-ltb}
-use Rattle.theory.specs.declared.wish.Wish.{Wish}
 use Rattle.theory.specs.declared.wish.Wish.TheVariants.{Clear, Apart, Fine, Word, Least}
 use Rattle.theory.specs.Words.{alias, stratum}
-use Rattle.theory.specs.Wishes.{Low, Formed, low, formed, FormedFact, Meets, FrontFact}
+use Rattle.theory.specs.Wishes.{Low, low, FormedFact, FrontFact}
 use Rattle.theory.proofs.Words.{alias_0}
 
 -- ---- formed, by tests

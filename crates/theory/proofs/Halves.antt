@@ -1,5 +1,5 @@
 -- The sign laws of a sound key.
-use Rattle.std.proofs.Common.{◌≡◌, ℕ, ◌+◌, ◌*◌, ◌^◌, ◌<◌, ◌≤◌, Bool, true, false, cond, not, List, ◌++◌, length, sym, refl, ap, ◌∙◌, subst, ap₂, arith, pow_pos}
+use Rattle.std.proofs.Common.{◌≡◌, ℕ, ◌+◌, ◌*◌, ◌^◌, ◌<◌, ◌≤◌, Bool, true, false, cond, not, List, ◌++◌, length, sym, refl, ap, ◌∙◌, subst, arith, pow_pos}
 use mathlib.Core.Bool.{beq}
 use native.Mathlib.Decide.{dec_lt}
 use Rattle.theory.specs.declared.sign.Sign.{Sign}
@@ -7,7 +7,7 @@ use Rattle.theory.specs.declared.sign.Sign.TheVariants.{Plus, Minus}
 use Rattle.theory.specs.Words.{total, alias, stratum, evenly, sign}
 use Rattle.theory.specs.Keys.{Words}
 use Rattle.theory.specs.Tallies.{count}
-use Rattle.theory.specs.Signs.{sign_in, same_sign, Together, AlikeOrHalf, Halves, run_number, OneOrHalf, PlotHalves}
+use Rattle.theory.specs.Signs.{sign_in, same_sign, Halves, run_number, OneOrHalf}
 use Rattle.theory.specs.Laws.{SignFact}
 use Rattle.theory.proofs.Counts.{count_same, count_both, count_one}
 use Rattle.theory.proofs.Members.{together, together_same}

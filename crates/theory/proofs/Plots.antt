@@ -1,11 +1,11 @@
 -- Two layers are the lists `w ∷ s ∷ []`.
-use Rattle.std.proofs.Common.{◌≡◌, ℕ, zero, suc, ◌+◌, ◌-◌, ◌*◌, ◌/◌, ◌%◌, ◌^◌, ◌<◌, ◌≤◌, false, eqb, ◌≢◌, List, [], ◌∷◌, length, get_or, sym, refl, ap, ◌∙◌, subst, ap₂, lt_of_lt_of_le, mod-eq_of_lt, mul_comm, arith, pow_pos, pow_mono, pow-add}
+use Rattle.std.proofs.Common.{◌≡◌, ℕ, zero, suc, ◌+◌, ◌*◌, ◌/◌, ◌%◌, ◌^◌, ◌<◌, ◌≤◌, false, eqb, ◌≢◌, List, [], ◌∷◌, length, get_or, sym, refl, ap, ◌∙◌, subst, lt_of_lt_of_le, mod-eq_of_lt, mul_comm, arith, pow_pos, pow_mono, pow-add}
 use mathlib.Core.Logic.{∥∥₁_map}
 use native.Mathlib.Nat.{div-eq_of_lt}
 use native.Mathlib.Decide.{dec_lt, ℕ_discrete}
 use lib.Dec.{eqb-suc-zero}
 use lib.Pow.{pow-lt}
-use Rattle.theory.specs.Words.{alias, stratum, total}
+use Rattle.theory.specs.Words.{stratum, total}
 use Rattle.theory.specs.Keys.{Open, Next, here, above, Reads, done, stays, opens, Sound, Standard, homes}
 use Rattle.theory.specs.Plots.{SoundKey, Read, end, opens_s, opens_w, opens_none, StandardKey, TwoLayers}
 use Rattle.theory.proofs.Homes.{length_homes, home_whole, home_sub}

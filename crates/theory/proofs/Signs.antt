@@ -1,5 +1,5 @@
 -- The half-run law, over all runs and within a whole plot.
-use Rattle.std.proofs.Common.{◌≡◌, ℕ, zero, suc, ◌+◌, ◌-◌, ◌*◌, ◌/◌, ◌%◌, ◌^◌, ◌<◌, ◌≤◌, Bool, true, false, cond, not, eqb, ◌⊎◌, List, [], ◌∷◌, sym, refl, ap, ◌∙◌, subst, ap₂, inl, inr, lt_of_le_of_lt, add-zero, mod-lt, mul_comm, eq-zero-or-pos, pow-suc, zero-mul, add-one, arith, lit<, pow_pos, shr_lt}
+use Rattle.std.proofs.Common.{◌≡◌, ℕ, zero, suc, ◌+◌, ◌*◌, ◌/◌, ◌%◌, ◌^◌, ◌<◌, Bool, true, false, not, eqb, ◌⊎◌, sym, refl, ap, ◌∙◌, subst, ap₂, inl, inr, lt_of_le_of_lt, add-zero, mod-lt, mul_comm, eq-zero-or-pos, pow-suc, zero-mul, add-one, arith, lit<, pow_pos, shr_lt}
 use mathlib.Core.Bool.{beq}
 use native.Mathlib.Nat.{add-mod}
 use Rattle.std.proofs.lemmas.Bool.{cases_eq}
@@ -8,7 +8,7 @@ use lib.Count.{ones, ones_cat}
 use lib.Pow.{split}
 use Rattle.theory.specs.Words.{evenly}
 use Rattle.theory.specs.Tallies.{count}
-use Rattle.theory.proofs.Counts.{count_same, count_both, count_twice, count_one}
+use Rattle.theory.proofs.Counts.{count_same, count_both, count_twice}
 
 -- the shared bits of the high and the low parts are counted apart
 ones_parts : (j a t p : ℕ) → p < 2 ^ j → ones (bit_and a (t * 2 ^ j + p)) ≡ ones (bit_and (a / 2 ^ j) t) + ones (bit_and (a % 2 ^ j) p)

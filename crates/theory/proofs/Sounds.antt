@@ -1,5 +1,5 @@
 -- What soundness gives: every column is a unit word, and each unit word comes with an effect.
-use Rattle.std.proofs.Common.{◌≡◌, ℕ, suc, ◌*◌, ◌/◌, ◌%◌, ◌^◌, ◌<◌, ◌≤◌, ◌≢◌, ◌⊎◌, List, [], ◌∷◌, ◌++◌, length, get_or, sym, subst, inl, inr, mod-lt, zero-lt-suc, arith, pow_pos}
+use Rattle.std.proofs.Common.{◌≡◌, ℕ, suc, ◌*◌, ◌/◌, ◌%◌, ◌^◌, ◌<◌, ◌≢◌, ◌⊎◌, List, [], ◌∷◌, ◌++◌, length, get_or, sym, subst, inl, inr, mod-lt, zero-lt-suc, arith, pow_pos}
 use mathlib.Core.Logic.{∥∥₁_elim}
 use native.Mathlib.Decide.{dec_lt}
 use lib.ListN.{get_or-eq_default}

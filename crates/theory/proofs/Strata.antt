@@ -1,5 +1,5 @@
 -- The first layers, and the strata that lie in them.
-use Rattle.std.proofs.Common.{◌≡◌, ℕ, zero, suc, ◌+◌, ◌/◌, ◌^◌, ◌<◌, ◌≤◌, List, [], ◌∷◌, ◌++◌, length, sym, refl, ap, ◌∙◌, subst, add_comm, suc-ne-zero, div-one, arith, shr-shr, shr_lt}
+use Rattle.std.proofs.Common.{◌≡◌, ℕ, zero, suc, ◌+◌, ◌/◌, ◌^◌, ◌<◌, ◌≤◌, List, [], ◌∷◌, ◌++◌, length, sym, refl, ap, ◌∙◌, add_comm, suc-ne-zero, div-one, arith, shr-shr, shr_lt}
 use lib.Arith.{lt-one}
 use Rattle.theory.specs.Words.{total, stratum}
 use Rattle.theory.proofs.Words.{div_0}

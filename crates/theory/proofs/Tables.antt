@@ -1,5 +1,5 @@
 -- Counts of effects by length and alias, one column after another.
-use Rattle.std.proofs.Common.{◌≡◌, ℕ, zero, suc, ◌+◌, ◌*◌, ◌^◌, ◌<◌, ◌≤◌, Bool, true, false, cond, ◌&&◌, eqb, ◌⊎◌, List, [], ◌∷◌, ◌++◌, length, sym, refl, ap, ◌∙◌, subst, ap₂, inl, inr, one-mul, pow-suc, zero-mul, add-one, arith, pow_mono}
+use Rattle.std.proofs.Common.{◌≡◌, ℕ, zero, suc, ◌+◌, ◌*◌, ◌^◌, ◌<◌, ◌≤◌, Bool, false, ◌&&◌, eqb, ◌⊎◌, List, [], ◌∷◌, ◌++◌, length, sym, refl, ap, ◌∙◌, subst, ap₂, inl, inr, one-mul, pow-suc, zero-mul, add-one, arith, pow_mono}
 use lib.Bits.{bit_xor, xor_zero_r}
 use lib.Count.{ones, ones_in, ones_cat}
 use Rattle.std.proofs.lemmas.List.{length_push}

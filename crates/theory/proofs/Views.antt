@@ -1,5 +1,5 @@
 -- What is asked of a key is read off two things: the stratum of each effect, and which effects share a chain.
-use Rattle.std.proofs.Common.{◌≡◌, ℕ, zero, suc, ◌+◌, ◌*◌, ◌^◌, ◌<◌, ◌≤◌, Bool, true, false, cond, ◌&&◌, eqb, ◌≢◌, ◌↔◌, List, [], ◌∷◌, length, Some, None, filter, Option, sym, refl, ap, ◌∙◌, subst, ap₂, arith}
+use Rattle.std.proofs.Common.{◌≡◌, ℕ, zero, suc, ◌*◌, ◌^◌, ◌<◌, ◌≤◌, Bool, true, false, cond, ◌&&◌, eqb, ◌≢◌, ◌↔◌, List, length, Some, None, filter, Option, sym, refl, ap, ◌∙◌, ap₂, arith}
 use lib.Count.{ones}
 use Rattle.std.specs.List.{range_with_len}
 use Rattle.std.proofs.lemmas.Bool.{eq-eqb, ne_eqb, eqb-true, eqb-false}
@@ -9,7 +9,7 @@ use Rattle.theory.specs.declared.wish.Wish.TheVariants.{Clear, Apart, Fine, Word
 use Rattle.theory.specs.Words.{total, alias, stratum}
 use Rattle.theory.specs.Keys.{Words}
 use Rattle.theory.specs.Chains.{chain}
-use Rattle.theory.specs.Tallies.{count, sum_to, members, free, word_count, free_pairs, free_squares, tally, first_length, resolution}
+use Rattle.theory.specs.Tallies.{count, sum_to, members, free, word_count, free_squares, tally, first_length, resolution}
 use Rattle.theory.specs.Wishes.{Meets}
 use Rattle.theory.proofs.Words.{alias_0}
 use Rattle.theory.proofs.Sounds.{alias_word}

@@ -3,7 +3,7 @@ use Rattle.std.proofs.Common.{◌≡◌, ℕ, zero, suc, ◌+◌, ◌*◌, ◌/�
 use native.Mathlib.Nat.{div-eq_of_lt, mul-mod_left, div_self, div-eq_of_lt-le}
 use native.Mathlib.Decide.{dec_lt}
 use lib.Arith.{digits_div, digits_mod}
-use lib.Pow.{split, high, low, mod-mod-pow, field}
+use lib.Pow.{split, mod-mod-pow, field}
 use lib.Bits.{bit_xor, xor_assoc, xor_comm, xor_self, xor_zero_r, xor_shr}
 use Rattle.theory.specs.Words.{alias}
 

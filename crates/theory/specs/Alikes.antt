@@ -1,5 +1,5 @@
 -- Twins are alike in everything that is asked of a key. Assumes nothing.
-use Rattle.std.specs.Prelude.{◌≡◌, ℕ, ◌^◌, ◌<◌, ◌↔◌, List, length}
+use Rattle.std.specs.Prelude.{◌≡◌, ℕ, ◌↔◌, List, length}
 use Rattle.theory.specs.declared.wish.Wish.{Wish}
 use Rattle.theory.specs.Keys.{Sound, Twins}
 use Rattle.theory.specs.Chains.{chain}

@@ -2,7 +2,7 @@
 --
 -- A key gives each factor a unit word, its column; it is the list of the columns in factor order. The list ts has the
 -- layer of each factor, counted from 1; `homes` makes it of how many factors each layer has.
-use Rattle.std.specs.Prelude.{◌≡◌, ℕ, zero, suc, ◌+◌, ◌/◌, ◌%◌, ◌^◌, ◌<◌, ◌≢◌, ◌↔◌, List, [], ◌∷◌, ◌++◌, length, replicate, slice_index, refl}
+use Rattle.std.specs.Prelude.{◌≡◌, ℕ, suc, ◌/◌, ◌%◌, ◌^◌, ◌<◌, ◌≢◌, ◌↔◌, List, [], ◌∷◌, ◌++◌, length, replicate, slice_index, refl}
 use Rattle.theory.specs.Words.{total, alias, stratum}
 
 -- the layer of each factor, where the first of the counts is that of layer l

@@ -1,5 +1,5 @@
 -- The tally of a key, and its resolution. Assumes nothing.
-use Rattle.std.specs.Prelude.{◌≡◌, ℕ, zero, suc, ◌+◌, ◌*◌, ◌^◌, Bool, cond, not, ◌&&◌, List, [], ◌∷◌, length, Some, None, Option, ◌==◌, refl}
+use Rattle.std.specs.Prelude.{◌≡◌, ℕ, zero, suc, ◌+◌, ◌*◌, ◌^◌, Bool, cond, ◌&&◌, List, [], ◌∷◌, length, Some, None, Option, ◌==◌, refl}
 use Rattle.std.specs.Int.Count.{ones, ones_in}
 use Rattle.theory.specs.declared.tally.Tally.{Tally}
 use Rattle.theory.specs.Words.{total, alias, stratum}

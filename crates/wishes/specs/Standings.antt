@@ -5,7 +5,6 @@ use Rattle.theory.specs.declared.refusal.Refusal.TheVariants.{WishForm, WishStan
 use Rattle.theory.specs.declared.wish.Wish.{Wish}
 use Rattle.theory.specs.declared.wish.Wish.TheVariants.{Least}
 use Rattle.theory.specs.Wishes.{formed}
-use Rattle.opening.specs.Shapes.{factors_of}
 use Rattle.wishes.specs.declared.standing.Standing.{Standing}
 use Rattle.wishes.specs.Lists.{stands}
 

@@ -3,7 +3,6 @@ use Rattle.std.specs.Prelude.{◌≡◌, ℕ, ◌<◌, List, [], ◌∷◌, leng
 use Rattle.std.specs.List.{ContainsAt as Has, AllByRecursion as All}
 use Rattle.theory.specs.declared.wish.Wish.{Wish}
 use Rattle.theory.specs.declared.wish.Wish.TheVariants.{Clear, Apart, Fine, Word, Least}
-use Rattle.theory.specs.Words.{alias}
 use Rattle.theory.specs.Wishes.{Formed, Meets}
 
 -- the wish is one of the factors of these columns, and the columns do not meet it

@@ -1,4 +1,4 @@
-use Rattle.std.proofs.Common.{◌≡◌, ℕ, List, take, Result, ap, ◌∙◌, ap₂}
+use Rattle.std.proofs.Common.{ℕ, List, Result, ap, ◌∙◌, ap₂}
 use Rattle.theory.specs.declared.refusal.Refusal.{Refusal}
 use Rattle.opening.specs.declared.Shape.{Shape}
 use Rattle.spelling.specs.Spelled.{effects_text}

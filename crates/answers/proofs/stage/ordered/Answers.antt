@@ -1,4 +1,4 @@
-use Rattle.std.proofs.Common.{◌≡◌, ℕ, Ok, Result, refl, ap, ◌∙◌, subst}
+use Rattle.std.proofs.Common.{ℕ, Ok, Result, refl, subst}
 use Rattle.opening.specs.declared.Shape.{Shape}
 use Rattle.sheet.specs.Left.{words_left}
 use Rattle.lines.specs.Commands.{commands}

@@ -1,8 +1,7 @@
-use Rattle.std.proofs.Common.{◌≡◌, ℕ, ◌^◌, ap, subst, arith}
-use Rattle.std.specs.List.{range_with_len, flat_map}
+use Rattle.std.proofs.Common.{arith}
 use Rattle.key.specs.Layouts.{row_text}
 use Rattle.key.specs.Questions.{columns_of}
-use Rattle.text.proofs.Pieces.{start, onward_text, reworded}
+use Rattle.text.proofs.Pieces.{start, onward_text}
 use Rattle.key.proofs.Key.put_plot.Goals as goal
 
 pub loop-subplot-init : goal.loop-subplot-init

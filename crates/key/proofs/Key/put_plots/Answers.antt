@@ -1,4 +1,4 @@
-use Rattle.std.proofs.Common.{◌≡◌, ℕ, zero, ◌+◌, ◌*◌, ◌^◌, ◌<◌, ◌≤◌, length, ap, ◌∙◌, zero-add, arith}
+use Rattle.std.proofs.Common.{◌≡◌, ℕ, ◌+◌, ◌^◌, ap, ◌∙◌, zero-add, arith}
 use Rattle.std.specs.List.{range_with_len, flat_map}
 use Rattle.key.specs.Layouts.{plot_text}
 use Rattle.key.specs.Questions.{columns_of}

@@ -1,4 +1,4 @@
-use Rattle.std.proofs.Common.{ℕ, ◌+◌, List, [], ◌++◌, codes, ap₂, arith}
+use Rattle.std.proofs.Common.{ℕ, List, [], ◌++◌, codes, ap₂, arith}
 use Rattle.key.specs.Layouts.{place_text, signs_text}
 use Rattle.key.specs.Questions.{columns_of}
 use Rattle.key.proofs.Soundness.{length_columns}

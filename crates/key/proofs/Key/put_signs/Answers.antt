@@ -1,4 +1,4 @@
-use Rattle.std.proofs.Common.{◌≡◌, ℕ, ◌+◌, ◌<◌, List, [], length, get_or, sym, ap, ◌∙◌, subst, add-zero, arith}
+use Rattle.std.proofs.Common.{◌≡◌, ℕ, ◌+◌, List, [], length, get_or, sym, ap, ◌∙◌, subst, add-zero, arith}
 use Rattle.theory.specs.Words.{sign}
 use Rattle.key.specs.Layouts.{sign_code}
 use Rattle.key.specs.Questions.{columns_of}

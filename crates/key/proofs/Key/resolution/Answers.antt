@@ -1,4 +1,4 @@
-use Rattle.std.proofs.Common.{sym, ap, ◌∙◌, subst, rules}
+use Rattle.std.proofs.Common.{sym, ap, ◌∙◌, subst}
 use Rattle.theory.specs.Laws.{Resolves}
 use Rattle.theory.specs.Tallies.{resolution}
 use Rattle.theory.proofs.Defining.{resolves}

@@ -1,4 +1,4 @@
-use Rattle.std.proofs.Common.{◌<◌, arith}
+use Rattle.std.proofs.Common.{arith}
 use lib.Bits.{xor_lt}
 use Rattle.key.proofs.making.widened.Goals as goal
 

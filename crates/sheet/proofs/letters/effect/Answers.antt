@@ -1,4 +1,4 @@
-use Rattle.std.proofs.Common.{◌≡◌, get_or, Some, arith, rules}
+use Rattle.std.proofs.Common.{◌≡◌, get_or, Some, rules}
 use Rattle.sheet.specs.Letters.{factor}
 use Rattle.sheet.proofs.Group.{factor_below, some_letters, join_other, join_back, join_end, turn}
 use Rattle.sheet.proofs.letters.effect.Goals as goal

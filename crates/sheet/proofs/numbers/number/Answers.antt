@@ -1,4 +1,4 @@
-use Rattle.std.proofs.Common.{arith, rules}
+use Rattle.std.proofs.Common.{rules}
 use Rattle.sheet.proofs.Digit.{digit_low, digit_high, digits_stop, digits_end, sized, turn}
 use Rattle.sheet.proofs.numbers.number.Goals as goal
 

@@ -1,5 +1,4 @@
 use Rattle.std.proofs.Common.{◌≡◌, ℕ, ◌+◌, ◌*◌, get_or, ap, ◌∙◌, arith}
-use Rattle.theory.specs.Tallies.{members}
 use Rattle.figures.specs.Counted.{columns_in}
 use Rattle.figures.proofs.Growth.{at_entry}
 use Rattle.figures.proofs.Reading.{members_small}

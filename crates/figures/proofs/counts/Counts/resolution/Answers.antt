@@ -1,4 +1,4 @@
-use Rattle.std.proofs.Common.{◌≡◌, ◌+◌, sym, ap, ◌∙◌, arith}
+use Rattle.std.proofs.Common.{◌+◌, sym, ◌∙◌}
 use Rattle.figures.specs.Counted.{columns_in}
 use Rattle.figures.proofs.Reading.{first_none, first_some}
 use Rattle.figures.proofs.counts.Counts.resolution.Goals as goal

@@ -1,8 +1,8 @@
-use Rattle.std.proofs.Common.{◌≡◌, ℕ, ◌+◌, ◌*◌, ◌%◌, ◌^◌, ◌≤◌, List, [], ◌∷◌, ◌++◌, Some, None, sym, ap, ◌∙◌, subst₂, arith, pow_pos}
+use Rattle.std.proofs.Common.{◌≡◌, ℕ, ◌+◌, List, [], ◌∷◌, ◌++◌, Some, None, sym, ap, ◌∙◌, arith, pow_pos}
 use Rattle.std.proofs.lemmas.Bool.{cond-true}
 use Rattle.theory.specs.declared.tally.Tally.{Tally}
-use Rattle.theory.specs.Tallies.{members, sum_to, tally}
-use Rattle.opening.specs.Shapes.{layers_of, units_of}
+use Rattle.theory.specs.Tallies.{sum_to, tally}
+use Rattle.opening.specs.Shapes.{layers_of}
 use Rattle.figures.specs.Counted.{columns_in, room_for, unmixed, unmixed_square}
 use Rattle.figures.proofs.Reading.{words_more}
 use Rattle.figures.proofs.Layers.{plots_is, runs_is, plots_below, whole_pairs, whole_squares, sub_pairs, sub_squares}

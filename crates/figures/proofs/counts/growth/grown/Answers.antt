@@ -1,5 +1,5 @@
-use Rattle.std.proofs.Common.{◌<◌, arith, rules}
-use lib.Bits.{bit_xor, xor_lt}
+use Rattle.std.proofs.Common.{arith}
+use lib.Bits.{xor_lt}
 use Rattle.figures.proofs.counts.growth.grown.Goals as goal
 
 pub overflow_mul-new : goal.overflow_mul-new

@@ -1,4 +1,4 @@
-use Rattle.std.proofs.Common.{arith, rules}
+use Rattle.std.proofs.Common.{rules}
 use Rattle.sheet.proofs.Cut.{up_to_here, up_to_past, up_to_end}
 use Rattle.sheet.proofs.reader.walk.up_to.Goals as goal
 

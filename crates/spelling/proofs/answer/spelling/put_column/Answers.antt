@@ -1,4 +1,4 @@
-use Rattle.std.proofs.Common.{◌≡◌, ℕ, ◌+◌, List, [], ◌∷◌, ◌++◌, codes, decimal, ap, ap₂, arith}
+use Rattle.std.proofs.Common.{ℕ, List, [], ◌∷◌, ◌++◌, codes, decimal, ap, ap₂, arith}
 use Rattle.text.proofs.Pieces.{start, onward_fits, reworded}
 use Rattle.spelling.proofs.Lengths.{three_digits}
 use Rattle.spelling.proofs.answer.spelling.put_column.Goals as goal

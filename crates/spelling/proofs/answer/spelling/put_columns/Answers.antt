@@ -1,4 +1,4 @@
-use Rattle.std.proofs.Common.{◌≡◌, ℕ, List, length, get_or, ap, arith}
+use Rattle.std.proofs.Common.{◌≡◌, ℕ, length, get_or, ap, arith}
 use Rattle.std.specs.List.{range_with_len, flat_map}
 use Rattle.text.proofs.Pieces.{start, onward_text, reworded}
 use Rattle.spelling.specs.Spelled.{column_text}

@@ -1,4 +1,4 @@
-use Rattle.std.proofs.Common.{◌≡◌, ℕ, ◌+◌, ◌≤◌, Bool, cond, eqb, List, [], ◌++◌, get_or, codes, sym, ap, ◌∙◌, subst, subst₂, arith}
+use Rattle.std.proofs.Common.{ℕ, ◌+◌, ◌≤◌, Bool, cond, eqb, List, [], get_or, codes, sym, ap, subst₂, arith}
 use Rattle.std.proofs.lemmas.Bool.{eq-eqb, ne_eqb}
 use Rattle.sheet.specs.Letters.{letters_of}
 use Rattle.text.proofs.Pieces.{Placed, start, onward_fits, reworded}

@@ -1,6 +1,6 @@
-use Rattle.std.proofs.Common.{◌≡◌, ℕ, List, ◌++◌, length, codes, ap, arith}
+use Rattle.std.proofs.Common.{◌≡◌, ℕ, ◌++◌, length, codes, ap, arith}
 use Rattle.std.specs.List.{range_with_len, flat_map}
-use Rattle.text.proofs.Pieces.{Placed, start, onward_text, onward_fits, reworded}
+use Rattle.text.proofs.Pieces.{onward_text, onward_fits, reworded}
 use Rattle.spelling.specs.Spelled.{effect_text}
 use Rattle.spelling.proofs.answer.spelling.put_effects.Goals as goal
 

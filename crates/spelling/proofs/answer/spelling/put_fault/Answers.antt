@@ -1,4 +1,4 @@
-use Rattle.std.proofs.Common.{◌≡◌, ℕ, ◌<◌, List, [], ◌++◌, length, codes, decimal, ap, ◌∙◌, arith}
+use Rattle.std.proofs.Common.{ℕ, [], ◌++◌, codes, decimal, ap, ◌∙◌, arith}
 use Rattle.sheet.specs.Faults.{fault_place}
 use Rattle.sheet.specs.declared.fault.Place.{Place}
 use Rattle.text.proofs.Pieces.{start, onward_fits, reworded}

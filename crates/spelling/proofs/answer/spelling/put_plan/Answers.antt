@@ -1,4 +1,4 @@
-use Rattle.std.proofs.Common.{◌≡◌, ℕ, ◌≤◌, List, [], ◌++◌, length, codes, ap, ◌∙◌, ap₂, arith}
+use Rattle.std.proofs.Common.{ℕ, List, [], ◌++◌, length, codes, ap, ap₂, arith}
 use Rattle.opening.specs.declared.Shape.{Shape}
 use Rattle.text.proofs.Pieces.{start, onward, onward_fits, reworded}
 use Rattle.key.proofs.Soundness.{length_columns}

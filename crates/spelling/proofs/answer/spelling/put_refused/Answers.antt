@@ -1,4 +1,4 @@
-use Rattle.std.proofs.Common.{◌≡◌, ℕ, ◌<◌, List, [], ◌++◌, length, codes, decimal, ap, ◌∙◌, arith}
+use Rattle.std.proofs.Common.{ℕ, [], ◌++◌, codes, decimal, ap, ◌∙◌, arith}
 use Rattle.text.proofs.Pieces.{start, onward_fits, reworded}
 use Rattle.spelling.proofs.Lengths.{twenty_digits}
 use Rattle.spelling.proofs.answer.spelling.put_refused.Goals as goal
