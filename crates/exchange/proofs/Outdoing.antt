@@ -1,6 +1,6 @@
 -- The law of exchange.
 use Rattle.std.proofs.Common.{◌≡◌, ℕ, suc, ◌+◌, ◌-◌, ◌<◌, List, length, get_or, drop, sym, subst, arith, take-append-drop}
-use Rattle.std.specs.List.{ContainsAt as Has, AllByRecursion as All}
+use Rattle.std.specs.List.{ContainsAt as Has, AllByRecursion}
 use Rattle.std.proofs.ByRecursion.{all-has, All-weaker, all_has_itself}
 use Rattle.theory.specs.declared.wish.Wish.{Wish}
 use Rattle.theory.specs.Keys.{Reads, none}
@@ -17,7 +17,7 @@ module _ (ws cs : List ℕ) (i j : ℕ) (order : i < j) (within : j < length cs)
   fits : suc (j - suc i + i) < length cs
   fits = omega arith
 
-  all_meet : (wishes : List Wish) → Blind i j wishes → All (Meets ws cs) wishes → All (Meets ws (exchanged i j cs)) wishes
+  all_meet : (wishes : List Wish) → Blind i j wishes → AllByRecursion (Meets ws cs) wishes → AllByRecursion (Meets ws (exchanged i j cs)) wishes
   all_meet wishes blind met =
       All-weaker (Has wishes) (Meets ws (exchanged i j cs))
       (λ wish has. meets_over ws (j - suc i) i cs fits wish (all-has (Meets ws cs) wishes (wish_exchanged i j wish) met (blind wish has))) wishes (all_has_itself wishes)

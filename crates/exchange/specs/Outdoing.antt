@@ -1,7 +1,7 @@
 -- When a key is outdone by its own exchange: an earlier key that is as good. Assumes nothing.
 use Rattle.std.specs.Prelude.{◌≡◌, ℕ, suc, ◌<◌, ◌≤◌, List, [], ◌∷◌, length, take, slice_index, refl}
 use Rattle.std.proofs.Common.{subst, le_refl, arith}
-use Rattle.std.specs.List.{AllByRecursion as All}
+use Rattle.std.specs.List.{AllByRecursion}
 use Rattle.theory.specs.declared.wish.Wish.{Wish}
 use Rattle.theory.specs.Keys.{Next, here, above, none, Standard}
 use Rattle.theory.specs.Tallies.{tally}
@@ -25,7 +25,7 @@ ReadAlike ws cs i j = (os : List ℕ) × Reaches ws (none ws) (take (suc j) cs) 
 -- The standard key ds meets the wishes, has the tally of cs, and comes before it.
 pub record Outdoes (ws ts : List ℕ) (wishes : List Wish) (ds cs : List ℕ) : Type 0 where
   pub standard : Standard ws ts ds
-  pub meets : All (Meets ws ds) wishes
+  pub meets : AllByRecursion (Meets ws ds) wishes
   pub level : tally ws ds ≡ tally ws cs
   pub earlier : Before ds cs
 
@@ -34,7 +34,7 @@ pub record Outdoes (ws ts : List ℕ) (wishes : List Wish) (ds cs : List ℕ) : 
 abbrev pub ExchangeFact : Type 0
 ExchangeFact =
     (ws ts : List ℕ) (wishes : List Wish) (cs : List ℕ) (i j : ℕ)
-    → Standard ws ts cs → All (Meets ws cs) wishes → Exchangeable ts wishes i j
+    → Standard ws ts cs → AllByRecursion (Meets ws cs) wishes → Exchangeable ts wishes i j
     → slice_index cs j < slice_index cs i → ReadAlike ws cs i j
     → Outdoes ws ts wishes (exchanged i j cs) cs
 

@@ -1,7 +1,7 @@
 -- Keys that fail no standing wish, and what is kept of them.
 use Rattle.std.proofs.Common.{◌≡◌, ℕ, ◌^◌, ◌<◌, ◌≤◌, Bool, true, false, cond, T, ◌↔◌, List, [], ◌∷◌, ◌++◌, length, take, Some, None, MatchBool, Option, sym, refl, ap, ◌∙◌, subst, subst₂, inl, inr, append-nil, lt_of_lt_of_le, arith, length-append, pow_mono}
 use lib.Seq.{take-append_seam}
-use Rattle.std.specs.List.{AllByRecursion as All}
+use Rattle.std.specs.List.{AllByRecursion}
 use Rattle.std.proofs.ByRecursion.{all-has, All-weaker}
 use Rattle.std.proofs.lemmas.Bool.Decides.{when_true, when_false}
 use Rattle.theory.specs.declared.tally.Tally.{Tally}
@@ -60,7 +60,7 @@ holds false t = absurd t
 
 -- the standing wishes are tested on columns; the judge has had the same since it began
 module _ (counts : Counts) (first now : Standing) (same : now ≡ first) (r : Bool)
-    (test : MatchBool r (SomeFails (layers_of counts.shape) (columns_in counts) (wishes_in now)) (All (Passes (layers_of counts.shape) (columns_in counts)) (wishes_in now))) where
+    (test : MatchBool r (SomeFails (layers_of counts.shape) (columns_in counts) (wishes_in now)) (AllByRecursion (Passes (layers_of counts.shape) (columns_in counts)) (wishes_in now))) where
   -- they fail one: so does each key that begins with them
   none_passes : r ≡ true → (key : List ℕ) → Begins (columns_in counts) key → PassesAll (layers_of counts.shape) (wishes_in first) key → ⊥
   none_passes t key begin =
@@ -106,7 +106,7 @@ sought shape wishes formed key = (
   λ h. (h.0, All-weaker (Meets (layers_of shape) key) (Passes (layers_of shape) key) (λ _ met _. met) wishes h.1),
   λ h.
       let size : length key ≡ factors_of shape = h.0.sound.size ∙ length_homes shape.n1 shape.n2 in
-      (h.0, none_fails_met (layers_of shape) key wishes (subst (λ (n : ℕ). All (Formed n) wishes) (sym size) ((all_formed_lem (factors_of shape) wishes).0 formed)) h.1),
+      (h.0, none_fails_met (layers_of shape) key wishes (subst (λ (n : ℕ). AllByRecursion (Formed n) wishes) (sym size) ((all_formed_lem (factors_of shape) wishes).0 formed)) h.1),
 )
 
 -- ---- the end of the walk

@@ -1,7 +1,7 @@
 -- The first best key, keys that meet wishes, and the best of all sound keys that do. Assumes nothing.
 use Rattle.std.specs.Prelude.{◌≡◌, ℕ, List, [], ◌∷◌, Option, MatchOption, refl}
 use Rattle.std.specs.Int.Count.{ones, ones_in}
-use Rattle.std.specs.List.{AllByRecursion as All}
+use Rattle.std.specs.List.{AllByRecursion}
 use Rattle.theory.specs.declared.tally.Tally.{Tally}
 use Rattle.theory.specs.declared.wish.Wish.{Wish}
 use Rattle.theory.specs.declared.wish.Wish.TheVariants.{Fine, Word}
@@ -35,7 +35,7 @@ Finding columns Kind ranks r = MatchOption r ((key : List ℕ) → Kind key → 
 
 -- the key meets every wish of the list, where ws has how many unit factors each layer has
 abbrev pub MeetsAll : List ℕ → List ℕ → List Wish → Type 0
-MeetsAll ws key wishes = All (Meets ws key) wishes
+MeetsAll ws key wishes = AllByRecursion (Meets ws key) wishes
 
 -- the standard keys of a shape that meet the wishes
 abbrev pub Wished : Shape → List Wish → List ℕ → Type 0

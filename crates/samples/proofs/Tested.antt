@@ -1,7 +1,7 @@
 -- Tests that antt computes, each with what it decides.
 use Rattle.std.proofs.Common.{◌≡◌, ℕ, zero, suc, ◌^◌, ◌<◌, ◌≤◌, Bool, true, false, cond, not, ◌&&◌, ◌||◌, eqb, ltb, leb, ◌≢◌, ◌↔◌, List, [], ◌∷◌, length, get_or, Decides, filter, sym, refl, subst, inl, inr, true≢false, le-leb, leb-true}
 use lib.Count.{ones}
-use Rattle.std.specs.List.{AllByRecursion as All}
+use Rattle.std.specs.List.{AllByRecursion}
 use Rattle.std.proofs.lemmas.Bool.Decides.{Decides-eqb, Decides-ltb, Decides-not, Decides-and, Decides-below_and, Decides-below_or}
 use Rattle.theory.specs.declared.wish.Wish.{Wish}
 use Rattle.theory.specs.declared.wish.Wish.TheVariants.{Clear, Apart, Fine, Word, Least}
@@ -67,7 +67,7 @@ meets ws cs (Fine e) = same (stratum ws (alias cs e)) (length ws)
 meets ws cs (Word e) = same (alias cs e) 0
 meets ws cs (Least r) = each (2 ^ length cs) (λ f. then (fails (same f 0)) (then (same (alias cs f) 0) (most r (ones f))))
 
-abbrev pub all_meet : (ws cs : List ℕ) (wishes : List Wish) → Test (All (Meets ws cs) wishes)
+abbrev pub all_meet : (ws cs : List ℕ) (wishes : List Wish) → Test (AllByRecursion (Meets ws cs) wishes)
 all_meet ws cs [] = (true, (λ h. tt, λ h. refl))
 all_meet ws cs (wish ∷ wishes) = both (meets ws cs wish) (all_meet ws cs wishes)
 

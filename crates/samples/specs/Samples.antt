@@ -2,7 +2,7 @@
 --
 -- Bit i of an effect is factor i. In the first sample the factors A, p, q and r are 0, 1, 2 and 3, so Apq is 1 + 2 + 4.
 use Rattle.std.specs.Prelude.{◌≡◌, ℕ, ◌↔◌, List, [], ◌∷◌, None, refl}
-use Rattle.std.specs.List.{AllByRecursion as All}
+use Rattle.std.specs.List.{AllByRecursion}
 use Rattle.theory.specs.declared.wish.Wish.{Wish}
 use Rattle.theory.specs.declared.wish.Wish.TheVariants.{Clear, Fine, Word, Least}
 use Rattle.theory.specs.Words.{alias, stratum}
@@ -14,7 +14,7 @@ use Rattle.finding.specs.Listing.{In}
 
 -- of the standard keys exactly these are left, where each of the wishes must be met
 abbrev pub Left : (ws ts : List ℕ) → List Wish → List (List ℕ) → Type 0
-Left ws ts wishes keys = (key : List ℕ) → (Standard ws ts key × All (Meets ws key) wishes) ↔ In key keys
+Left ws ts wishes keys = (key : List ℕ) → (Standard ws ts key × AllByRecursion (Meets ws key) wishes) ↔ In key keys
 
 -- ---- 2 1 1 3: two whole-plot and one subplot unit factors, one whole-plot factor A, three subplot factors p, q, r
 

@@ -2,12 +2,12 @@
 use Rattle.std.proofs.Common.{◌≡◌, ℕ, suc, ◌-◌, ◌<◌, Bool, true, false, cond, ◌||◌, eqb, List, [], ◌∷◌, length, get_or, sym, refl, ap, ◌∙◌, arith, eqb-true}
 use borrow.Author.Tests.{clash, eqb-false}
 use Rattle.std.proofs.lemmas.Bool.Decides.{nat_tests}
-use Rattle.std.specs.List.{AllByRecursion as All}
+use Rattle.std.specs.List.{AllByRecursion}
 use Rattle.sheet.specs.Cuts.{words, lines, on_first, spaced, feeding, fed, Without, WordsStand, LinesStand}
 
 -- what cutting into words keeps of xs
 abbrev Cut : List ℕ → List (List ℕ) → Type 0
-Cut xs ps = (spaced ps ≡ xs) × (0 < length ps) × All (Without 32) ps
+Cut xs ps = (spaced ps ≡ xs) × (0 < length ps) × AllByRecursion (Without 32) ps
 
 at_space : (x : ℕ) (xs : List ℕ) (ps : List (List ℕ)) → x ≡ 32 → Cut xs ps → Cut (x ∷ xs) ([] ∷ ps)
 at_space x xs [] e c = absurd (omega (arith, c.1))
@@ -28,7 +28,7 @@ words_stand_lem (x ∷ xs) = one_byte x xs (words xs) (eqb x 32) refl (words_sta
 
 -- what cutting into lines keeps of xs
 abbrev Fed : List ℕ → List (List ℕ) → Type 0
-Fed xs ls = (feeding ls ≡ xs) × All (Without 10) ls
+Fed xs ls = (feeding ls ≡ xs) × AllByRecursion (Without 10) ls
 
 -- the last byte of two or more is that of all but the first
 fed_rest : (x y : ℕ) (ys : List ℕ) → fed (x ∷ y ∷ ys) ≡ fed (y ∷ ys)

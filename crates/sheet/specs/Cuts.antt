@@ -1,6 +1,6 @@
 -- How a sheet is cut into lines, and a line into words. Assumes nothing.
 use Rattle.std.specs.Prelude.{◌≡◌, ℕ, ◌+◌, ◌-◌, ◌<◌, Bool, true, cond, not, ◌||◌, List, [], ◌∷◌, ◌++◌, length, codes, ◌==◌, ◌≢◌, slice_index, refl}
-use Rattle.std.specs.List.{prefix_len, AllByRecursion as All}
+use Rattle.std.specs.List.{prefix_len, AllByRecursion}
 
 -- how many bytes come before the first b; how many there are, where there is no b
 abbrev pub length_up_to : ℕ → List ℕ → ℕ
@@ -52,15 +52,15 @@ feeding (l ∷ ls) = l ++ (10 ∷ feeding ls)
 
 -- whether b is none of the bytes
 abbrev pub Without : ℕ → List ℕ → Type 0
-Without b xs = All (λ x. x ≢ b) xs
+Without b xs = AllByRecursion (λ x. x ≢ b) xs
 
 -- cutting into words loses nothing, gives at least one word, and no word holds a space
 abbrev pub WordsStand : Type 0
-WordsStand = (xs : List ℕ) → (spaced (words xs) ≡ xs) × (0 < length (words xs)) × All (Without 32) (words xs)
+WordsStand = (xs : List ℕ) → (spaced (words xs) ≡ xs) × (0 < length (words xs)) × AllByRecursion (Without 32) (words xs)
 
 -- cutting into lines loses nothing where each line ends with a line feed, and no line holds one
 abbrev pub LinesStand : Type 0
-LinesStand = (xs : List ℕ) → fed xs ≡ true → (feeding (lines xs) ≡ xs) × All (Without 10) (lines xs)
+LinesStand = (xs : List ℕ) → fed xs ≡ true → (feeding (lines xs) ≡ xs) × AllByRecursion (Without 10) (lines xs)
 
 -- three words, the last of them empty
 example_words : placed 1 (words (codes "rank x ")) ≡ (1, codes "rank") ∷ (6, codes "x") ∷ (8, []) ∷ []

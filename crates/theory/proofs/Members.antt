@@ -1,6 +1,6 @@
 -- The members of a chain are the effects with its alias.
 use Rattle.std.proofs.Common.{◌≡◌, ℕ, zero, suc, ◌+◌, ◌^◌, ◌<◌, ◌≤◌, Bool, true, false, cond, ◌⊎◌, List, [], ◌∷◌, ◌++◌, length, get_or, filter, sym, refl, ap, ◌∙◌, subst, inl, inr, add-one, arith}
-use Rattle.std.specs.List.{range_with_len, ContainsAt as Has, AllByRecursion as All}
+use Rattle.std.specs.List.{range_with_len, ContainsAt as Has, AllByRecursion}
 use Rattle.std.proofs.lemmas.List.{append-nil, length_push, get_or_append_left, get_or_push}
 use Rattle.std.proofs.lemmas.List.FromFn.{length-range_with_len, get_or-range_with_len}
 use Rattle.std.proofs.ByRecursion.{has_append_left, has_push, all-has, All-get_or, All-from_get_or, all_kept_by, kept_by_passes}
@@ -23,7 +23,7 @@ in_kept p (suc n) k h t = subst (λ (m : ℕ). Has (filter p (range_with_len 0 m
     go rec (inr n') = subst (λ (xs : List ℕ). Has xs k) (sym (kept_more p n)) (has_append_left (filter p (range_with_len 0 n)) _ k (rec (omega arith)))
 
 -- what is kept of the numbers below n is below n
-kept_below : (p : ℕ → Bool) (n : ℕ) → All (λ x. x < n) (filter p (range_with_len 0 n))
+kept_below : (p : ℕ → Bool) (n : ℕ) → AllByRecursion (λ x. x < n) (filter p (range_with_len 0 n))
 kept_below p n =
     all_kept_by p (λ x. x < n) (range_with_len 0 n)
     (All-from_get_or (λ x. x < n) (range_with_len 0 n) 0 (λ i h. at i (subst (λ (m : ℕ). i < m) (length-range_with_len 0 n) h)))
@@ -39,7 +39,7 @@ kept_member cs v e h = (
 )
 
 -- a number above all of a rising list goes to its end
-rising_push : (xs : List ℕ) (n : ℕ) → Rising xs → All (λ x. x < n) xs → Rising (xs ++ n ∷ [])
+rising_push : (xs : List ℕ) (n : ℕ) → Rising xs → AllByRecursion (λ x. x < n) xs → Rising (xs ++ n ∷ [])
 rising_push xs n up low i j h l = go (cases_lt j (length xs))
   where
     long : length (xs ++ n ∷ []) ≡ length xs + 1

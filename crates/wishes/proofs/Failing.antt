@@ -1,7 +1,7 @@
 -- A wish that the first columns fail.
 use Rattle.std.proofs.Common.{◌≡◌, ℕ, ◌+◌, ◌<◌, ◌≤◌, Bool, true, false, ltb, List, [], ◌∷◌, length, get_or, take, Some, None, MatchBool, sym, refl, ap, ◌∙◌, subst, arith, length-take}
 use native.Mathlib.Nat.{min-le_right}
-use Rattle.std.specs.List.{AllByRecursion as All}
+use Rattle.std.specs.List.{AllByRecursion}
 use Rattle.std.proofs.ByRecursion.{all-has, All-more, has_get_or}
 use Rattle.std.proofs.lemmas.List.{take_all}
 use Rattle.std.proofs.lemmas.Bool.{ltb-true, ltb-false}
@@ -74,7 +74,7 @@ pub some_fails_for_all : (ws cs : List ℕ) (wishes : List Wish) → SomeFails w
 some_fails_for_all ws cs wishes (wish, has, fails) ds begins met = fails_for_all ws cs wish fails ds begins (all-has (Meets ws ds) wishes wish met has)
 
 -- where no wish of a whole key's factors fails, the key meets all of them
-pub none_fails_met : (ws cs : List ℕ) (wishes : List Wish) → All (Formed (length cs)) wishes → All (Passes ws cs) wishes → All (Meets ws cs) wishes
+pub none_fails_met : (ws cs : List ℕ) (wishes : List Wish) → AllByRecursion (Formed (length cs)) wishes → AllByRecursion (Passes ws cs) wishes → AllByRecursion (Meets ws cs) wishes
 none_fails_met ws cs [] formed pass = tt
 none_fails_met ws cs (wish ∷ wishes) formed pass = (pass.0 formed.0, none_fails_met ws cs wishes formed.1 pass.1)
 
@@ -84,8 +84,8 @@ module _ (ws cs : List ℕ) (wishes items : List Wish) (same : items ≡ wishes)
   some_found d r h t test =
       subst (SomeFails ws cs) same (get_or items i d, has_get_or items i d h, when_true (Fails ws cs (get_or items i d)) (Passes ws cs (get_or items i d)) t test)
 
-  pub none_more : (d : Wish) (r : Bool) → i < length items → All (Passes ws cs) (take i items) → r ≡ false → MatchBool r (Fails ws cs (get_or items i d)) (Passes ws cs (get_or items i d)) → All (Passes ws cs) (take (i + 1) items)
+  pub none_more : (d : Wish) (r : Bool) → i < length items → AllByRecursion (Passes ws cs) (take i items) → r ≡ false → MatchBool r (Fails ws cs (get_or items i d)) (Passes ws cs (get_or items i d)) → AllByRecursion (Passes ws cs) (take (i + 1) items)
   none_more d r h none f test = All-more (Passes ws cs) items i d h none (when_false (Fails ws cs (get_or items i d)) (Passes ws cs (get_or items i d)) f test)
 
-  pub none_found : length items ≤ i → All (Passes ws cs) (take i items) → All (Passes ws cs) wishes
-  none_found h none = subst (All (Passes ws cs)) (take_all i items h ∙ same) none
+  pub none_found : length items ≤ i → AllByRecursion (Passes ws cs) (take i items) → AllByRecursion (Passes ws cs) wishes
+  none_found h none = subst (AllByRecursion (Passes ws cs)) (take_all i items h ∙ same) none

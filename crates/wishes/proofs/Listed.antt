@@ -1,6 +1,6 @@
 -- Lists of wishes: what a list has, a wish more, a wish less.
 use Rattle.std.proofs.Common.{◌≡◌, ℕ, ◌+◌, ◌<◌, ◌≤◌, Bool, true, false, not, ◌&&◌, eqb, ◌⊎◌, List, [], ◌∷◌, ◌++◌, length, get_or, take, set, Some, Decides, filter, sym, refl, ◌∙◌, subst, subst₂, inl, inr}
-use Rattle.std.specs.List.{ContainsAt as Has, AllByRecursion as All}
+use Rattle.std.specs.List.{ContainsAt as Has, AllByRecursion}
 use Rattle.std.proofs.lemmas.List.Filters.{FiltersInPlace, FiltersInPlace-more_no, FiltersInPlace-more_set}
 use Rattle.std.proofs.lemmas.List.{get_or_default, take_more, take_all}
 use Rattle.std.proofs.ByRecursion.{has_get_or, Decides-by_and}
@@ -54,7 +54,7 @@ other_way x y f = go (cases_Bool (same_wish y x))
 pub stands_has : (xs : List Wish) (wish : Wish) → Decides (stands xs wish) (Has xs wish)
 stands_has xs wish = Decides-by_or (λ x. same_wish x wish) (λ x. x ≡ wish) (λ ys. stands ys wish) (λ x. same_decides x wish) refl (λ _ _. refl) xs
 
-pub all_formed_lem : (n : ℕ) (xs : List Wish) → Decides (all_formed n xs) (All (Formed n) xs)
+pub all_formed_lem : (n : ℕ) (xs : List Wish) → Decides (all_formed n xs) (AllByRecursion (Formed n) xs)
 all_formed_lem n xs = Decides-by_and (formed n) (Formed n) (all_formed n) (formed_fact n) refl (λ _ _. refl) xs
 
 stands_append : (xs ys : List Wish) (wish : Wish) → stands xs wish ≡ false → stands ys wish ≡ false → stands (xs ++ ys) wish ≡ false

@@ -1,7 +1,7 @@
 -- Wishes with two factors exchanged, as the code makes and looks for them.
 use Rattle.std.proofs.Common.{◌≡◌, ℕ, zero, suc, ◌+◌, ◌-◌, ◌*◌, ◌/◌, ◌%◌, ◌^◌, ◌<◌, ◌≤◌, Bool, true, false, ◌≢◌, ◌⊎◌, List, length, get_or, take, sym, refl, ap, ◌∙◌, subst, ap₂, lt_of_lt_of_le, add-one, arith, pow_mono}
 use native.Mathlib.Decide.{dec_lt}
-use Rattle.std.specs.List.{ContainsAt as Has, AllByRecursion as All}
+use Rattle.std.specs.List.{ContainsAt as Has, AllByRecursion}
 use Rattle.std.proofs.lemmas.Nat.{one_shl}
 use Rattle.std.proofs.ByRecursion.{all-has, All-get_or, has_get_or}
 use Rattle.std.proofs.lemmas.List.{take_all}
@@ -97,7 +97,7 @@ module _ (i j : ℕ) (wishes items : List Wish) (same : items ≡ wishes) where
   pub wish_of_ten : (n : ℕ) → n ≤ 10 → all_formed n wishes ≡ true → (at : ℕ) (d : Wish) → at < length items → OfTen (get_or items at d)
   wish_of_ten n h formed at d l =
       of_ten h (get_or items at d)
-      (All-get_or (Formed n) items at d l (subst (All (Formed n)) (sym same) ((all_formed_lem n wishes).0 formed)))
+      (All-get_or (Formed n) items at d l (subst (AllByRecursion (Formed n)) (sym same) ((all_formed_lem n wishes).0 formed)))
 
   -- what the code asks for
   pub asked : (wish made : Wish) (b : Bool) → made ≡ wish_over (j - i - 1) i wish → b ≡ stands wishes made → stands wishes (wish_exchanged i j wish) ≡ b
@@ -105,10 +105,10 @@ module _ (i j : ℕ) (wishes items : List Wish) (same : items ≡ wishes) where
       let gap : j - suc i ≡ j - i - 1 = omega arith in
       ap (λ (n : ℕ). stands wishes (wish_over n i wish)) gap ∙ ap (stands wishes) (sym is) ∙ sym told
 
-  pub all_kept : (at : ℕ) → length items ≤ at → All (Kept i j wishes) (take at items) → Blind i j wishes
+  pub all_kept : (at : ℕ) → length items ≤ at → AllByRecursion (Kept i j wishes) (take at items) → Blind i j wishes
   all_kept at l kept wish has =
       (stands_has wishes (wish_exchanged i j wish)).0
-      (all-has (Kept i j wishes) wishes wish (subst (All (Kept i j wishes)) (take_all at items l ∙ same) kept) has)
+      (all-has (Kept i j wishes) wishes wish (subst (AllByRecursion (Kept i j wishes)) (take_all at items l ∙ same) kept) has)
 
   pub not_kept : (at : ℕ) (d : Wish) → at < length items → stands wishes (wish_exchanged i j (get_or items at d)) ≡ false → Blind i j wishes → ⊥
   not_kept at d l f blind =

@@ -1,6 +1,6 @@
 -- What the first columns of a key say of a wish. Assumes nothing.
 use Rattle.std.specs.Prelude.{◌≡◌, ℕ, ◌<◌, List, [], ◌∷◌, length, take, refl}
-use Rattle.std.specs.List.{ContainsAt as Has, AllByRecursion as All}
+use Rattle.std.specs.List.{ContainsAt as Has, AllByRecursion}
 use Rattle.theory.specs.declared.wish.Wish.{Wish}
 use Rattle.theory.specs.declared.wish.Wish.TheVariants.{Clear, Apart, Fine, Word, Least}
 use Rattle.theory.specs.Wishes.{Formed, Meets}
@@ -22,7 +22,7 @@ abbrev pub SomeFails : List ℕ → List ℕ → List Wish → Type 0
 SomeFails ws cs wishes = (wish : Wish) × Has wishes wish × Fails ws cs wish
 
 abbrev pub AllMetByNone : List ℕ → List ℕ → List Wish → Type 0
-AllMetByNone ws cs wishes = (ds : List ℕ) → take (length cs) ds ≡ cs → All (Meets ws ds) wishes → ⊥
+AllMetByNone ws cs wishes = (ds : List ℕ) → take (length cs) ds ≡ cs → AllByRecursion (Meets ws ds) wishes → ⊥
 
 -- each effect that the wish names is one of ten factors
 abbrev pub OfTen : Wish → Type 0

@@ -1,7 +1,7 @@
 //! Which wishes stand, and whether columns fail one.
 
 ghost use Rattle.std.specs.Prelude.{◌≡◌, true, MatchBool};
-ghost use Rattle.std.specs.List.{AllByRecursion as All};
+ghost use Rattle.std.specs.List.{AllByRecursion};
 ghost use Rattle.opening.specs.Shapes.{layers_of};
 ghost use Rattle.figures.specs.Counted.{columns_in};
 ghost use Rattle.wishes.specs.Lists.{same_wish, stands};
@@ -52,7 +52,7 @@ impl Standing {
     ///
     /// On the columns of a whole key this is whether the key does not meet all wishes that stand.
     pub fn any_fails(&self, counts: &Counts) -> bool
-        ensures test { MatchBool result (SomeFails (layers_of counts.now.shape) (columns_in counts.now) (wishes_in self.now)) (All (Passes (layers_of counts.now.shape) (columns_in counts.now)) (wishes_in self.now)) }
+        ensures test { MatchBool result (SomeFails (layers_of counts.now.shape) (columns_in counts.now) (wishes_in self.now)) (AllByRecursion (Passes (layers_of counts.now.shape) (columns_in counts.now)) (wishes_in self.now)) }
         ensures front { result ≡ true → AllMetByNone (layers_of counts.now.shape) (columns_in counts.now) (wishes_in self.now) }
     {
         for wish in self.wishes() {
