@@ -776,8 +776,12 @@ def respelled(text, skips):
     return "".join(parts) + turned(text[at:])
 
 
-# the definition and the function of src/ that cuts lines share one name, so the places of the definition are told here
+# names that fall together with another's: the kit's script turns the first number of a wish and the first of two verdicts
+# to one name, and the length up to a byte has that of the function of src/ that tells it
 def one_name_for_two(path, text):
+    if path.startswith("crates/wishes/"):
+        text = re.sub(r"(?<![\w'-])first_decisive(?![\w'-])", "first_number", text)
+        return re.sub(r"(?<![\w'-])second_of(?![\w'-])", "second_number", text)
     if not path.startswith("crates/sheet/"):
         return text
     if path.endswith(".antt"):

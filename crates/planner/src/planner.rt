@@ -22,6 +22,10 @@ pub struct Planner<R> {
 }
 
 impl<R: Copy> Clone for Planner<R> {
+    ghost is_clone = { λ planner copy. copy ≡ planner };
+
+    ghost is_infallible = { λ _. Unit {0} };
+
     fn clone(&self) -> Result<Planner<R>, AllocError> {
         Ok(*self)
     }

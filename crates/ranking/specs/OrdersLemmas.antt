@@ -73,7 +73,7 @@ turned Better h = h refl
 turned Level h = tt
 turned Worse h = tt
 
--- ---- what a search rules
+-- ---- what a search needs
 module _ {S : Type 0} {ranks : S → S → Verdict} (o : Order ranks) where
   -- what is better than y is better than all that y is not worse than
   pub better_than : (x y z : S) → ranks x y ≡ Better → HoldsUp (ranks y z) → ranks x z ≡ Better

@@ -1,8 +1,8 @@
 //! Penalty: each defining word costs, short ones more.
 
 ghost use Rattle.ranking.specs.Penalties.{penalty};
+ghost use Rattle.ranking.specs.OrdersLemmas.{fewer_order};
 ghost use Rattle.ranking.specs.Verdicts.{fewer};
-ghost use Rattle.std.proofs.Common.{rules};
 
 use crate::ranking::Ranking;
 use crate::verdict::Verdict;
@@ -20,7 +20,7 @@ impl Ranking for Penalty {
 
     ghost ranked = { λ _. fewer };
 
-    ghost order = { Prim.search rules };
+    ghost order = { λ _. fewer_order };
 
     fn score(&self, tally: &Tally) -> u32 {
         64 * tally.a3 as u32 + 16 * tally.a4 as u32 + 4 * tally.a5 as u32 + tally.a6 as u32

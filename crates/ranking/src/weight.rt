@@ -11,7 +11,7 @@ use crate::verdict::Verdict;
 use theory::refusal::Refusal;
 use theory::tally::Tally;
 
-/// The larger typeof.a.M1 + typeof.b.M2 is better, and where these are equal the smaller typeof.a².Q1 + typeof.b².Q2.
+/// The larger a·M1 + b·M2 is better, and where these are equal the smaller a²·Q1 + b²·Q2.
 ///
 /// M1, M2, Q1 and Q2 are figures of the tally. A whole-plot interaction counts a/b of a subplot
 /// one. b is from 1 to 1000, and a from 0 to b.
@@ -25,9 +25,9 @@ pub struct Weight {
 /// What a tally is worth at a weight a/b.
 #[derive(Clone, Copy)]
 pub struct Worth {
-    /// typeof.a.M1 + typeof.b.M2
+    /// a·M1 + b·M2
     pub sum: u64,
-    /// typeof.a².Q1 + typeof.b².Q2
+    /// a²·Q1 + b²·Q2
     pub squares: u64,
 }
 

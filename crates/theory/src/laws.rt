@@ -78,6 +78,8 @@ pub fn first_columns_decide() -> u8
 }
 
 /// With one subplot unit factor, every defining word has an even number of subplot factors.
-pub fn subplot_factors_are_even()
+pub fn subplot_factors_are_even() -> u8
     ensures { EvenFact }
-{}
+{
+    0
+}

@@ -11,12 +11,12 @@ use Rattle.theory.specs.declared.wish.Wish.TheVariants.{Clear, Apart, Fine, Word
 use Rattle.theory.specs.Wishes.{Formed, formed}
 use Rattle.theory.proofs.Fronts.{formed_fact}
 use Rattle.wishes.specs.Forms.{wish_of}
-use Rattle.wishes.specs.Lists.{kind_of, first_decisive, second_of, same_wish, stands, all_formed, distinct}
+use Rattle.wishes.specs.Lists.{kind_of, first_number, second_number, same_wish, stands, all_formed, distinct}
 
 -- ---- one wish and another
 
 -- a wish is told by its kind and its numbers
-told : (x : Wish) → wish_of (kind_of x) (first_decisive x) (second_of x) ≡ Some x
+told : (x : Wish) → wish_of (kind_of x) (first_number x) (second_number x) ≡ Some x
 told (Clear e) = refl
 told (Apart e f) = refl
 told (Fine e) = refl
@@ -31,17 +31,17 @@ same_decides x y = (to, λ e. subst (λ (z : Wish). same_wish x z ≡ true) e it
   where
     to : same_wish x y ≡ true → x ≡ y
     to t =
-        let first = and_parts (eqb (kind_of x) (kind_of y)) (eqb (first_decisive x) (first_decisive y) && eqb (second_of x) (second_of y)) t in
-        let rest = and_parts (eqb (first_decisive x) (first_decisive y)) (eqb (second_of x) (second_of y)) first.1 in
+        let first = and_parts (eqb (kind_of x) (kind_of y)) (eqb (first_number x) (first_number y) && eqb (second_number x) (second_number y)) t in
+        let rest = and_parts (eqb (first_number x) (first_number y)) (eqb (second_number x) (second_number y)) first.1 in
         let kinds = eqb-true (kind_of x) (kind_of y) first.0 in
-        let firsts = eqb-true (first_decisive x) (first_decisive y) rest.0 in
-        let seconds = eqb-true (second_of x) (second_of y) rest.1 in
+        let firsts = eqb-true (first_number x) (first_number y) rest.0 in
+        let seconds = eqb-true (second_number x) (second_number y) rest.1 in
         the_same x y (sym (told x) ∙ (λ i. wish_of (kinds i) (firsts i) (seconds i)) ∙ told y)
 
     itself : same_wish x x ≡ true
     itself =
-        and_from (eqb (kind_of x) (kind_of x)) (eqb (first_decisive x) (first_decisive x) && eqb (second_of x) (second_of x)) (eq-eqb (kind_of x) (kind_of x) refl)
-        (and_from (eqb (first_decisive x) (first_decisive x)) (eqb (second_of x) (second_of x)) (eq-eqb (first_decisive x) (first_decisive x) refl) (eq-eqb (second_of x) (second_of x) refl))
+        and_from (eqb (kind_of x) (kind_of x)) (eqb (first_number x) (first_number x) && eqb (second_number x) (second_number x)) (eq-eqb (kind_of x) (kind_of x) refl)
+        (and_from (eqb (first_number x) (first_number x)) (eqb (second_number x) (second_number x)) (eq-eqb (first_number x) (first_number x) refl) (eq-eqb (second_number x) (second_number x) refl))
 
 other_way : (x y : Wish) → same_wish x y ≡ false → same_wish y x ≡ false
 other_way x y f = go (cases_Bool (same_wish y x))

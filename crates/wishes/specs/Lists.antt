@@ -12,22 +12,22 @@ kind_of (Fine e) = 3
 kind_of (Word e) = 4
 kind_of (Least r) = 5
 
-abbrev pub first_decisive : Wish → ℕ
-first_decisive (Clear e) = e
-first_decisive (Apart e f) = e
-first_decisive (Fine e) = e
-first_decisive (Word e) = e
-first_decisive (Least r) = r
+abbrev pub first_number : Wish → ℕ
+first_number (Clear e) = e
+first_number (Apart e f) = e
+first_number (Fine e) = e
+first_number (Word e) = e
+first_number (Least r) = r
 
-abbrev pub second_of : Wish → ℕ
-second_of (Clear e) = 0
-second_of (Apart e f) = f
-second_of (Fine e) = 0
-second_of (Word e) = 0
-second_of (Least r) = 0
+abbrev pub second_number : Wish → ℕ
+second_number (Clear e) = 0
+second_number (Apart e f) = f
+second_number (Fine e) = 0
+second_number (Word e) = 0
+second_number (Least r) = 0
 
 abbrev pub same_wish : Wish → Wish → Bool
-same_wish x y = kind_of x == kind_of y && (first_decisive x == first_decisive y && second_of x == second_of y)
+same_wish x y = kind_of x == kind_of y && (first_number x == first_number y && second_number x == second_number y)
 
 -- the list has the wish
 abbrev pub stands : List Wish → Wish → Bool

@@ -13,6 +13,9 @@ use sheet::letters::{letter, put_letters};
 use text::{put_bytes, put_number};
 use theory::refusal::Refusal;
 
+/// The place of the first effect, before which no space is written.
+const FIRST: usize = 0;
+
 /// Writes a factor's letter and its column.
 fn put_column(out: &mut [u8], at: usize, n1: u8, factor: u8, column: u8) -> usize
     requires { at + 6 ≤ length out.old }
@@ -61,7 +64,7 @@ fn put_effect(out: &mut [u8], at: usize, n1: u8, effects: &[u16], place: usize) 
     ensures after { out.new ≡ put out.old at (effect_text n1 effects.now place) }
 {
     let mut end = at;
-    if place > 0 {
+    if place > FIRST {
         end = put_bytes(out, at, b" ");
     }
     put_letters(out, end, n1, effects[place])
