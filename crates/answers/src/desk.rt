@@ -33,10 +33,10 @@ fn chain_of(key: Key, effect: u16, line: usize) -> Answer
 }
 
 /// What a found key is answered.
-fn found(res: Result<Key, Refusal>, line: usize) -> Answer
-    ensures { answer_text result ≡ plan_told res line }
+fn found(outcome: Result<Key, Refusal>, line: usize) -> Answer
+    ensures { answer_text result ≡ plan_told outcome line }
 {
-    match res {
+    match outcome {
         Ok(key) => Answer::Plan(key),
         Err(refusal) => Answer::Refused(refusal, line),
     }
