@@ -14,11 +14,11 @@ layers_of shape = shape.w ∷ shape.s ∷ []
 abbrev pub homes_of : Shape → List ℕ
 homes_of shape = homes (shape.n1 ∷ shape.n2 ∷ [])
 
--- how many unit factors there are; the runs are the numbers below 2 ^ unitsOf shape
+-- how many unit factors there are; the runs are the numbers below 2 ^ units_of shape
 abbrev pub units_of : Shape → ℕ
 units_of shape = total (layers_of shape)
 
--- how many factors there are; the effects are the numbers below 2 ^ factorsOf shape
+-- how many factors there are; the effects are the numbers below 2 ^ factors_of shape
 abbrev pub factors_of : Shape → ℕ
 factors_of shape = shape.n1 + shape.n2
 

@@ -1,4 +1,5 @@
--- Orders made of orders, and what follows from the law of order alone.
+-- Orders made of orders, and what follows from the law of order alone. The lemmas stand in specs/ since the laws of impls
+-- cite them.
 use Rattle.std.specs.Prelude.{◌≡◌, ◌≢◌, refl}
 use Rattle.std.proofs.Common.{subst, rules}
 use Rattle.ranking.specs.declared.verdict.Verdict.{Verdict}
