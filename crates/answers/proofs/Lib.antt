@@ -1,1 +1,3 @@
-pub mod Chains
+pub mod Printed
+pub mod Keeping
+pub mod Ending

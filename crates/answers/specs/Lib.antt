@@ -1,3 +1,4 @@
 pub mod Obeyed
 pub mod Stepped
 pub mod Sessions
+pub mod Laws

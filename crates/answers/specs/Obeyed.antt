@@ -1,17 +1,18 @@
 -- What an order is answered, and what it leaves. Assumes nothing.
-use Rattle.std.specs.Prelude.{◌≡◌, ℕ, List, Some, None, Ok, Err, Option, Result}
+use Rattle.std.specs.Prelude.{◌≡◌, ℕ, List, Ok, Err, Option, Result}
 use Rattle.theory.specs.declared.refusal.Refusal.{Refusal}
-use Rattle.theory.specs.declared.refusal.Refusal.TheVariants.{NoPlan}
 use Rattle.theory.specs.Chains.{chain}
 use Rattle.opening.specs.declared.Shape.{Shape}
 use Rattle.key.specs.Questions.{columns_of, layout_of, chain_answer}
 use Rattle.key.specs.declared.Key.{Key}
-use Rattle.ranking.specs.Aberrations.{shortest, fewest}
-use Rattle.planner.specs.Entries.{find}
+use Rattle.ranking.specs.Chosen.{chosen_score, chosen_verdict}
+use Rattle.planner.specs.Entries.{Entry, add, strike, find}
 use Rattle.planner.specs.Histories.{Goes}
+use Rattle.planner.specs.Rules.{of_plan}
+use Rattle.planner.specs.declared.effect.Effect.{Effect}
 use Rattle.lines.specs.declared.command.Command.{Command}
-use Rattle.lines.specs.declared.command.Command.TheVariants.{Find, Layout, Chain}
-use Rattle.spelling.specs.Spelled.{plan_text, effects_text, refused_text}
+use Rattle.lines.specs.declared.command.Command.TheVariants.{Wish, Strike, Find, Layout, Chain}
+use Rattle.spelling.specs.Spelled.{plan_text, granted_text, effects_text, refused_text}
 use Rattle.answers.specs.declared.desk.Desk.{Desk}
 
 -- the numbers of the trial, and its standing plan
@@ -21,28 +22,32 @@ shape_of desk = desk.planner.standing.shape
 abbrev pub plan_of : Desk → Option Key
 plan_of desk = desk.planner.plan
 
--- the text of a found plan, or of the refusal
-abbrev pub plan_told : Result Key Refusal → ℕ → List ℕ
-plan_told (Err why) line = refused_text why line
-plan_told (Ok key) line = plan_text key.shape.n1 (columns_of key)
+-- the text of what a call answered, or of its refusal
+abbrev pub told : {A : Type 0} → (A → List ℕ) → ℕ → Result A Refusal → List ℕ
+told text line (Ok answer) = text answer
+told text line (Err why) = refused_text why line
 
--- the text of the chain of e in a plan: its effects, or the refusal of the question
-abbrev pub chain_by : Result ℕ Refusal → Key → ℕ → ℕ → List ℕ
-chain_by (Ok size) key e line = effects_text key.shape.n1 (chain (columns_of key) e)
-chain_by (Err why) key e line = refused_text why line
+-- a key, as a granted finding prints it
+abbrev pub key_text : Key → List ℕ
+key_text key = plan_text key.shape.n1 (columns_of key)
 
-abbrev pub chain_told : Key → ℕ → ℕ → List ℕ
-chain_told key e line = chain_by (chain_answer key e 32) key e line
+-- the chain of an effect in a plan: the question is asked with room for 32 effects, and no chain has more
+abbrev pub chain_by : Result ℕ Refusal → List ℕ → Result (List ℕ) Refusal
+chain_by (Ok size) effects = Ok effects
+chain_by (Err why) effects = Err why
 
--- what is told of a plan, or that none stands
-abbrev pub of_plan : (Key → List ℕ) → Option Key → ℕ → List ℕ
-of_plan told None line = refused_text NoPlan line
-of_plan told (Some key) line = told key
+abbrev pub chain_of : ℕ → Key → Result (List ℕ) Refusal
+chain_of e key = chain_by (chain_answer key e 32) (chain (columns_of key) e)
 
--- An order at a desk, its line, the text that is printed and the desk afterwards. Finding is the planner's, with its
--- promise after every history; the questions change nothing.
+-- a call to the desk's planner, with its promise after every history
+abbrev pub Calls : Desk → Entry → Desk → Type 0
+Calls desk entry after = Goes chosen_score chosen_verdict desk.planner entry after.planner
+
+-- An order at a desk, its line, the text that is printed and the desk afterwards. Wishes, strikes and findings are the
+-- planner's calls, and what these answer is printed; the questions change nothing.
 abbrev pub Obeyed : Desk → Command → ℕ → List ℕ → Desk → Type 0
-Obeyed desk Find line text after =
-    (r : Result Key Refusal) × Goes (λ _. shortest) (λ _. fewest) desk.planner (find r) after.planner × (text ≡ plan_told r line)
-Obeyed desk Layout line text after = (text ≡ of_plan layout_of (plan_of desk) line) × (after ≡ desk)
-Obeyed desk (Chain e) line text after = (text ≡ of_plan (λ key. chain_told key e line) (plan_of desk) line) × (after ≡ desk)
+Obeyed desk (Wish x) line text after = (r : Result Effect Refusal) × Calls desk (add x.kind x.e x.f r) after × (text ≡ told granted_text line r)
+Obeyed desk (Strike x) line text after = (r : Result Effect Refusal) × Calls desk (strike x.kind x.e x.f r) after × (text ≡ told granted_text line r)
+Obeyed desk Find line text after = (r : Result Key Refusal) × Calls desk (find r) after × (text ≡ told key_text line r)
+Obeyed desk Layout line text after = (text ≡ told layout_of line (of_plan (plan_of desk) Ok)) × (after ≡ desk)
+Obeyed desk (Chain e) line text after = (text ≡ told (effects_text (shape_of desk).n1) line (of_plan (plan_of desk) (chain_of e))) × (after ≡ desk)

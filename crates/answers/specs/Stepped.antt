@@ -4,6 +4,7 @@
 -- the outcome then.
 use Rattle.std.specs.Prelude.{◌≡◌, ℕ, List, Ok, Err, Result}
 use Rattle.theory.specs.declared.refusal.Refusal.{Refusal}
+use Rattle.theory.specs.declared.refusal.Refusal.TheVariants.{WeightLimits}
 use Rattle.opening.specs.declared.Shape.{Shape}
 use Rattle.opening.specs.Shapes as shapes
 use Rattle.lines.specs.Commands.{commands}
@@ -15,8 +16,12 @@ use Rattle.sheet.specs.declared.fault.SheetFault.{SheetFault}
 use Rattle.sheet.specs.declared.fault.SheetFault.TheVariants as of
 use Rattle.lines.specs.declared.opening.Opening.{Opening}
 use Rattle.lines.specs.declared.ranking.RankingName.{RankingName}
-use Rattle.lines.specs.declared.ranking.RankingName.TheVariants.{Aberration}
-use Rattle.ranking.specs.Aberrations.{shortest, fewest}
+use Rattle.lines.specs.declared.ranking.RankingName.TheVariants as named
+use Rattle.ranking.specs.Chosen.{chosen_score, chosen_verdict}
+use Rattle.ranking.specs.Fractions.{Fraction}
+use Rattle.ranking.specs.declared.choice.Choice.{Choice}
+use Rattle.ranking.specs.declared.choice.Choice.TheVariants.{Aberration, Weight, Penalty, Pile}
+use Rattle.ranking.specs.declared.weight.Weight as weight
 use Rattle.planner.specs.Openings.{Begins}
 use Rattle.answers.specs.Obeyed.{Obeyed, shape_of}
 use Rattle.spelling.specs.Spelled.{answer_text}
@@ -41,11 +46,28 @@ Opened line (Err fault) r = r ≡ Err fault
 Opened line (Ok o) r =
     (made : Result Shape Refusal) × shapes.Opening o.w o.s o.n1 o.n2 made × (r ≡ Ok (opened_by line made))
 
--- the line that chooses a ranking, as it was read: nothing is printed, and orders go to a planner that was opened so
-abbrev pub Ranked : Shape → Result RankingName LineFault → Outcome LineFault → Type 0
-Ranked shape (Err fault) r = r ≡ Err fault
-Ranked shape (Ok Aberration) r =
-    (desk : Desk) × Begins (λ _. shortest) (λ _. fewest) shape desk.planner.ranking desk.planner × (r ≡ Ok (Nothing, at.Orders desk))
+-- a ranking made of the weight a/b, or its refusal where the fraction is beyond the limits
+abbrev pub Weighed : ℕ → ℕ → (weight.Weight → Choice) → Result Choice Refusal → Type 0
+Weighed a b make (Ok choice) = Fraction a b × ((x : weight.Weight) × (x.a ≡ a) × (x.b ≡ b) × (choice ≡ make x))
+Weighed a b make (Err why) = (Fraction a b → ⊥) × (why ≡ WeightLimits)
+
+-- the ranking that a line names
+abbrev pub Chosen : RankingName → Result Choice Refusal → Type 0
+Chosen named.Aberration r = r ≡ Ok (Aberration (record {}))
+Chosen (named.Weight a b) r = Weighed a b Weight r
+Chosen named.Penalty r = r ≡ Ok (Penalty (record {}))
+Chosen (named.Pile a b) r = Weighed a b (λ x. Pile (record { first = record {}; second = x })) r
+
+-- Once a ranking is chosen, nothing is printed, and orders go to a planner that was opened with it; a refusal is told, and
+-- ends the sheet.
+abbrev pub RankedBy : Shape → ℕ → Result Choice Refusal → Outcome LineFault → Type 0
+RankedBy shape line (Ok choice) r = (desk : Desk) × Begins chosen_score chosen_verdict shape choice desk.planner × (r ≡ Ok (Nothing, at.Orders desk))
+RankedBy shape line (Err why) r = r ≡ Ok (Refused why line, at.Over)
+
+-- the line that chooses a ranking, as it was read
+abbrev pub Ranked : Shape → ℕ → Result RankingName LineFault → Outcome LineFault → Type 0
+Ranked shape line (Err fault) r = r ≡ Err fault
+Ranked shape line (Ok name) r = (choice : Result Choice Refusal) × Chosen name choice × RankedBy shape line choice r
 
 -- an order, as it was read
 abbrev pub Ordered : Desk → ℕ → Result Command LineFault → Outcome LineFault → Type 0
@@ -66,7 +88,7 @@ pub record Lifted (Read : Outcome LineFault → Type 0) (r : Outcome SheetFault)
 
 abbrev pub Stepped : Stage → ℕ → List (ℕ × List ℕ) → Outcome SheetFault → Type 0
 Stepped at.Opening line words r = Lifted (Opened line (opens line words)) r
-Stepped (at.Ranking shape) line words r = Lifted (Ranked shape (ranks line words)) r
+Stepped (at.Ranking shape) line words r = Lifted (Ranked shape line (ranks line words)) r
 Stepped (at.Orders desk) line words r = Lifted (Ordered desk line (commands (shape_of desk).n1 (shape_of desk).n2 line words)) r
 Stepped (at.Unread fault) line words r = r ≡ Ok (Nothing, at.Unread fault)
 Stepped at.Over line words r = r ≡ Ok (Nothing, at.Over)

@@ -3,5 +3,6 @@
 #![tactic(auto)]
 
 pub mod desk;
+pub mod laws;
 pub mod session;
 pub mod stage;

@@ -66,10 +66,13 @@ module _ (w n1 i c : ℕ) where
   sub_layer l h = rw (le-ltb i n1 l) (le-leb (2 ^ w) c h)
 
 -- no more are open than there are
-pub next_within : (w s n1 : ℕ) (used : List ℕ) (o : Opened) (c : ℕ) (p : Opened) → Within w s o → next w s n1 used o c ≡ Some p → Within w s p
-next_within w s n1 used o c p h e = go (after_move w s o c p (tests (is_in_layer w n1 (length used) c) (held c used) (after w s o c) p e).2)
+pub after_within : (w s : ℕ) (o : Opened) (c : ℕ) (p : Opened) → Within w s o → after w s o c ≡ Some p → Within w s p
+after_within w s o c p h e = go (after_move w s o c p e)
   where
     go : Move w s o c p → Within w s p
     go (by_s l k q) = subst (Within w s) (sym q) (h.0, omega arith)
     go (by_w l k i q) = subst (Within w s) (sym q) (omega arith, h.1)
     go (by_none l k q) = subst (Within w s) (sym q) h
+
+pub next_within : (w s n1 : ℕ) (used : List ℕ) (o : Opened) (c : ℕ) (p : Opened) → Within w s o → next w s n1 used o c ≡ Some p → Within w s p
+next_within w s n1 used o c p h e = after_within w s o c p h (tests (is_in_layer w n1 (length used) c) (held c used) (after w s o c) p e).2

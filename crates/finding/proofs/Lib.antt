@@ -5,7 +5,9 @@ pub mod Reach
 pub mod Columns
 pub mod Facts
 pub mod Standard
+pub mod Trading
 pub mod Walking
 pub mod Judging
 pub mod Passing
+pub mod Skipping
 pub mod Soundest

@@ -1,5 +1,5 @@
 -- Members of lists, and lists in dictionary order.
-use Rattle.std.proofs.Common.{◌≡◌, ℕ, zero, suc, ◌<◌, ◌⊎◌, List, [], ◌∷◌, ◌++◌, Some, None, Option, refl, subst, inl, inr, arith}
+use Rattle.std.proofs.Common.{◌≡◌, ℕ, zero, suc, ◌<◌, ◌⊎◌, List, [], ◌∷◌, ◌++◌, Some, None, Option, refl, ◌∙◌, subst, inl, inr, arith}
 use native.Mathlib.Decide.{ℕ_discrete}
 use Rattle.finding.specs.declared.opened.Opened.{Opened}
 use Rattle.finding.specs.Walks.{upto, go_on}
@@ -60,6 +60,15 @@ before_asymmetric (c ∷ cs) (d ∷ ds) (inl l) (inl m) = omega arith
 before_asymmetric (c ∷ cs) (d ∷ ds) (inl l) (inr k) = let e = k.0 in omega arith
 before_asymmetric (c ∷ cs) (d ∷ ds) (inr h) (inl m) = let e = h.0 in omega arith
 before_asymmetric (c ∷ cs) (d ∷ ds) (inr h) (inr k) = before_asymmetric cs ds h.1 k.1
+
+pub before_transitive : (xs ys zs : List ℕ) → Before xs ys → Before ys zs → Before xs zs
+before_transitive [] ys zs h k = absurd h
+before_transitive (x ∷ xs) [] zs h k = absurd h
+before_transitive (x ∷ xs) (y ∷ ys) [] h k = absurd k
+before_transitive (x ∷ xs) (y ∷ ys) (z ∷ zs) (inl h) (inl k) = inl (omega arith)
+before_transitive (x ∷ xs) (y ∷ ys) (z ∷ zs) (inl h) (inr (e, k)) = inl (omega arith)
+before_transitive (x ∷ xs) (y ∷ ys) (z ∷ zs) (inr (e, h)) (inl k) = inl (omega arith)
+before_transitive (x ∷ xs) (y ∷ ys) (z ∷ zs) (inr (e, h)) (inr (f, k)) = inr (e ∙ f, before_transitive xs ys zs h k)
 
 pub before_front : (us : List ℕ) (c d : ℕ) (cs ds : List ℕ) → c < d → Before (us ++ c ∷ cs) (us ++ d ∷ ds)
 before_front [] c d cs ds l = inl l

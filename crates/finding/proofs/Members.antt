@@ -46,7 +46,7 @@ module _ (w s n1 : ℕ) where
       (subst (λ (k : List ℕ). In k (keys_from w s n1 (length cs) (used ++ c ∷ []) p)) (append_assoc used (c ∷ []) cs)
       (goes_in cs (used ++ c ∷ []) p h.1.2)))
 
-  branch_in : (r : ℕ) (used : List ℕ) (o : Opened) (c : ℕ) (key : List ℕ) → In key (branch w s n1 r used o c) → (cs : List ℕ) × (key ≡ used ++ c ∷ cs)
+  pub branch_in : (r : ℕ) (used : List ℕ) (o : Opened) (c : ℕ) (key : List ℕ) → In key (branch w s n1 r used o c) → (cs : List ℕ) × (key ≡ used ++ c ∷ cs)
   branch_in r used o c key h =
       let g = in_go_on (next w s n1 used o c) (keys_from w s n1 r (used ++ c ∷ [])) key h in
       let k = in_goes r (used ++ c ∷ []) g.0 key g.2 in

@@ -1,20 +1,18 @@
 -- Keys that fail no standing wish, and what is kept of them.
-use Rattle.std.proofs.Common.{◌≡◌, ℕ, ◌^◌, ◌<◌, ◌≤◌, Bool, true, false, cond, T, ◌↔◌, List, [], ◌∷◌, ◌++◌, length, take, Some, None, MatchBool, Option, sym, refl, ap, ◌∙◌, subst, subst₂, inl, inr, append-nil, lt_of_lt_of_le, arith, length-append, pow_mono}
+use Rattle.std.proofs.Common.{◌≡◌, ℕ, Bool, true, false, cond, T, ◌↔◌, List, [], ◌∷◌, ◌++◌, length, take, Some, None, MatchBool, Option, sym, refl, ap, ◌∙◌, subst, subst₂, inl, inr, append-nil, arith, length-append}
 use lib.Seq.{take-append_seam}
 use Rattle.std.specs.List.{AllByRecursion}
 use Rattle.std.proofs.ByRecursion.{all-has, All-weaker}
 use Rattle.std.proofs.lemmas.Bool.Decides.{when_true, when_false}
 use Rattle.theory.specs.declared.tally.Tally.{Tally}
 use Rattle.theory.specs.declared.wish.Wish.{Wish}
-use Rattle.theory.specs.declared.wish.Wish.TheVariants.{Clear, Apart, Fine, Word, Least}
 use Rattle.theory.specs.Tallies.{tally}
-use Rattle.theory.specs.Wishes.{Low, Formed, Meets}
+use Rattle.theory.specs.Wishes.{Formed, Meets}
 use Rattle.theory.proofs.Homes.{length_homes}
 use Rattle.opening.specs.declared.Shape.{Shape}
 use Rattle.opening.specs.Shapes.{layers_of, factors_of}
 use Rattle.ranking.specs.declared.verdict.Verdict.{Verdict}
 use Rattle.ranking.specs.Orders.{Order}
-use Rattle.ranking.specs.OrdersLemmas.{through}
 use Rattle.figures.specs.declared.counts.Counts.{Counts}
 use Rattle.figures.specs.Counted.{columns_in, room_for}
 use Rattle.wishes.specs.declared.standing.Standing.{Standing}
@@ -23,30 +21,14 @@ use Rattle.wishes.specs.Standings.{wishes_in}
 use Rattle.wishes.specs.Tests.{Passes, SomeFails}
 use Rattle.wishes.proofs.Listed.{all_formed_lem}
 use Rattle.wishes.proofs.Failing.{fails_for_all, none_fails_met}
+use Rattle.wishes.proofs.Turning.{formed_more}
 use Rattle.finding.specs.declared.judge.Kept.{Kept}
 use Rattle.finding.specs.Walks.{standard_keys}
-use Rattle.finding.specs.Listing.{In, Begins, StandardIn}
+use Rattle.finding.specs.Listing.{In, Begins, Before, StandardIn}
 use Rattle.finding.specs.Best.{by_tally, Finding, Wished}
-use Rattle.finding.specs.Leading.{PassesAll, KeepsPassing}
+use Rattle.finding.specs.Leading.{PassesAll, OutdoneIn, KeepsPassing}
 use Rattle.finding.proofs.Standard.{listing_fact}
 use Rattle.finding.proofs.Judging.{leader_is_best, none_listed, keeps_on}
-
--- a wish of some factors is one of more
-formed_more : {m n : ℕ} → m ≤ n → (wish : Wish) → Formed m wish → Formed n wish
-formed_more {m} {n} h wish = go wish
-  where
-    wider : (e : ℕ) → e < 2 ^ m → e < 2 ^ n
-    wider e l = lt_of_lt_of_le l (pow_mono h)
-
-    low_more : (e : ℕ) → Low m e → Low n e
-    low_more e l = (wider e l.0, l.1, l.2)
-
-    go : (wish : Wish) → Formed m wish → Formed n wish
-    go (Clear e) k = (wider e k.0, k.1)
-    go (Apart e f) k = (k.0, low_more e k.1, low_more f k.2)
-    go (Fine e) k = low_more e k
-    go (Word e) k = (wider e k.0, k.1)
-    go (Least r) k = k
 
 -- no key passes that begins with columns that fail a wish
 begins_fails : (ws cs : List ℕ) (wishes : List Wish) → SomeFails ws cs wishes → (key : List ℕ) → Begins cs key → PassesAll ws wishes key → ⊥
@@ -54,7 +36,7 @@ begins_fails ws cs wishes (wish, has, fails) key (more, e) pass =
     fails_for_all ws cs wish fails key (ap (take (length cs)) e ∙ take-append_seam cs more)
     (all-has (Passes ws key) wishes wish pass has (formed_more (omega (arith, ap length e, length-append cs more)) wish fails.0))
 
-holds : (b : Bool) → T b → b ≡ true
+pub holds : (b : Bool) → T b → b ≡ true
 holds true t = refl
 holds false t = absurd t
 
@@ -70,8 +52,8 @@ module _ (counts : Counts) (first now : Standing) (same : now ≡ first) (r : Bo
   pub keep_left : {S : Type 0} (score : Tally → S) (ranks : S → S → Verdict) → Order ranks → (keys more : List (List ℕ)) (best : Option (Kept S)) → KeepsPassing counts.shape (wishes_in first) score ranks keys best
       → T r → ((key : List ℕ) → In key more → Begins (columns_in counts) key) → KeepsPassing counts.shape (wishes_in first) score ranks (keys ++ more) best
   keep_left score ranks order keys more best was t begin =
-      keeps_on (PassesAll (layers_of counts.shape) (wishes_in first)) (λ (key : List ℕ). score (tally (layers_of counts.shape) key)) ranks order keys best was more
-      (λ key i. none_passes (holds r t) key (begin key i))
+      keeps_on (PassesAll (layers_of counts.shape) (wishes_in first)) (OutdoneIn counts.shape (wishes_in first)) (λ (key : List ℕ). score (tally (layers_of counts.shape) key)) ranks order keys best was more
+      (λ key i pass. absurd (none_passes (holds r t) key (begin key i) pass))
 
   -- they are those of a key: the columns before, and the last one, which had room
   module _ (begun : Counts) (column : ℕ) (fits : room_for begun column ≡ true) (Shape-is : counts.shape ≡ begun.shape)
@@ -92,7 +74,7 @@ module _ (counts : Counts) (first now : Standing) (same : now ≡ first) (r : Bo
     pub keep_failed : {S : Type 0} (score : Tally → S) (ranks : S → S → Verdict) → Order ranks → (keys : List (List ℕ)) (best : Option (Kept S)) → KeepsPassing begun.shape (wishes_in first) score ranks keys best
         → r ≡ true → KeepsPassing begun.shape (wishes_in first) score ranks (keys ++ whole ∷ []) best
     keep_failed score ranks order keys best was t =
-        keeps_on (PassesAll (layers_of begun.shape) (wishes_in first)) (λ (key : List ℕ). score (tally (layers_of begun.shape) key)) ranks order keys best was (whole ∷ []) fails
+        keeps_on (PassesAll (layers_of begun.shape) (wishes_in first)) (OutdoneIn begun.shape (wishes_in first)) (λ (key : List ℕ). score (tally (layers_of begun.shape) key)) ranks order keys best was (whole ∷ []) (λ key i pass. absurd (fails key i pass))
       where
         fails : (key : List ℕ) → In key (whole ∷ []) → PassesAll (layers_of begun.shape) (wishes_in first) key → ⊥
         fails key (inl e) =
@@ -117,11 +99,19 @@ module _ (standing : Standing) {S : Type 0} (score : Tally → S) (ranks : S →
   abbrev Sought : List ℕ → Type 0
   Sought = Wished standing.shape (wishes_in standing)
 
+  abbrev score_of : List ℕ → S
+  score_of key = score (tally (layers_of standing.shape) key)
+
+  of_these : (key : List ℕ) → Sought key ↔ (StandardIn standing.shape key × PassesAll (layers_of standing.shape) (wishes_in standing) key)
+  of_these = sought standing.shape (wishes_in standing) standing.formed
+
+  -- what outdoes a key is sought, earlier, and level by its tally
+  gives_way : (key : List ℕ) → Sought key → OutdoneIn standing.shape (wishes_in standing) key → (other : List ℕ) × Sought other × Before other key × (score_of other ≡ score_of key)
+  gives_way key k out = let other = out k.0 in (other.0, (other.1.standard, other.1.meets), other.1.earlier, ap score other.1.level)
+
   kept_best : (best : Option (Kept S)) → KeepsIn standing.shape best → Finding (λ kept. columns_in kept.counts) Sought (by_tally standing.shape score ranks) best
-  kept_best None none = none_listed (standard_keys standing.shape) (listing_fact standing.shape) (sought standing.shape (wishes_in standing) standing.formed) none
-  kept_best (Some kept) keeps =
-      leader_is_best (PassesAll (layers_of standing.shape) (wishes_in standing)) (through (λ (key : List ℕ). score (tally (layers_of standing.shape) key)) order)
-      (standard_keys standing.shape) (listing_fact standing.shape) (sought standing.shape (wishes_in standing) standing.formed) (columns_in kept.counts) keeps.0
+  kept_best None none = none_listed score_of (standard_keys standing.shape) (listing_fact standing.shape) of_these gives_way none
+  kept_best (Some kept) keeps = leader_is_best score_of (standard_keys standing.shape) (listing_fact standing.shape) of_these gives_way order (columns_in kept.counts) keeps.0
 
   -- of all standard keys of the shape that the code read
   pub found : (read : Shape) → read ≡ standing.shape → (best : Option (Kept S)) → KeepsIn read best → Finding (λ kept. columns_in kept.counts) Sought (by_tally standing.shape score ranks) best

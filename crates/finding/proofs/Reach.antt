@@ -1,25 +1,20 @@
 -- The aliases of the columns read are just the words that are open then.
-use Rattle.std.proofs.Common.{◌≡◌, ℕ, ◌+◌, ◌*◌, ◌/◌, ◌%◌, ◌^◌, ◌<◌, ◌⊎◌, List, [], ◌∷◌, length, sym, ap, ◌∙◌, subst, inl, inr, mod-lt, zero-lt-suc, pow-suc, arith, pow_pos}
+use Rattle.std.proofs.Common.{◌≡◌, ℕ, ◌+◌, ◌*◌, ◌/◌, ◌%◌, ◌^◌, ◌<◌, ◌⊎◌, List, ◌∷◌, length, sym, ap, ◌∙◌, subst, inl, inr, mod-lt, zero-lt-suc, pow-suc, arith, pow_pos}
 use lib.Bits.{xor_assoc, xor_zero_r}
 use Rattle.theory.specs.Words.{alias}
-use Rattle.theory.specs.Keys.{Open, Next}
+use Rattle.theory.specs.Keys.{Open}
 use Rattle.theory.proofs.Words.{◌⊕◌, alias_even, alias_odd, meet}
 use Rattle.theory.proofs.Opens.{Fits, open_xor, next_open, next_in_lem, next_fits, widen}
 use Rattle.theory.proofs.Grow.{times_open}
+use Rattle.exchange.specs.Reaching.{Reaches, done, stays, opens}
 
--- the columns take what is open from os to qs
-pub data To (ws : List ℕ) : List ℕ → List ℕ → List ℕ → Type 0 where
-  done : {os : List ℕ} → To ws os [] os
-  stays : {os cs qs : List ℕ} {c : ℕ} → Open ws os c → To ws os cs qs → To ws os (c ∷ cs) qs
-  opens : {os ps cs qs : List ℕ} {c : ℕ} → Next ws os c ps → To ws ps cs qs → To ws os (c ∷ cs) qs
-
-pub to_fits : (ws : List ℕ) {os cs qs : List ℕ} → To ws os cs qs → Fits ws os → Fits ws qs
+pub to_fits : (ws : List ℕ) {os cs qs : List ℕ} → Reaches ws os cs qs → Fits ws os → Fits ws qs
 to_fits ws done f = f
 to_fits ws (stays o r) f = to_fits ws r f
 to_fits ws (opens n r) f = to_fits ws r (next_fits n f)
 
 -- what an alias has is open
-pub inside : (ws : List ℕ) {os cs qs : List ℕ} → To ws os cs qs → Fits ws os → (x e : ℕ) → Open ws os x → Open ws qs (x ⊕ alias cs e)
+pub inside : (ws : List ℕ) {os cs qs : List ℕ} → Reaches ws os cs qs → Fits ws os → (x e : ℕ) → Open ws os x → Open ws qs (x ⊕ alias cs e)
 inside ws done f x e o = rw xor_zero_r o
 inside ws (stays {os} {cs} {qs} {c} k r) f x e o =
     subst (Open ws qs) (xor_assoc x (e % 2 * c) (alias cs (e / 2)))
@@ -47,7 +42,7 @@ odd ws os cs c y x e o l p = (
 )
 
 -- what is open is an alias, but for what was open before
-pub reach : (ws : List ℕ) {os cs qs : List ℕ} → To ws os cs qs → (y : ℕ) → Open ws qs y → Reached ws os cs y
+pub reach : (ws : List ℕ) {os cs qs : List ℕ} → Reaches ws os cs qs → (y : ℕ) → Open ws qs y → Reached ws os cs y
 reach ws done y o = (y, o, (0, pow_pos 0, sym (xor_zero_r y)))
 reach ws (stays {os} {cs} {qs} {c} k r) y o = even ws os cs c y (reach ws r y o)
 reach ws (opens {os} {ps} {cs} {qs} {c} n r) y o = go (reach ws r y o)

@@ -17,10 +17,11 @@ use Rattle.finding.proofs.Lists.{no_members}
 use Rattle.finding.proofs.Members.{Goes, all_open, in_goes, goes_in, keys_rise}
 use Rattle.finding.proofs.Columns.{Move, by_s, by_w, by_none, layer_whole, layer_sub, whole_layer, sub_layer}
 use Rattle.finding.proofs.Facts.{Facts, move_of, goes_facts, goes_read, read_goes}
-use Rattle.finding.proofs.Reach.{To, done, stays, opens, to_fits, inside, reach}
+use Rattle.exchange.specs.Reaching.{Reaches, done, stays, opens}
+use Rattle.finding.proofs.Reach.{to_fits, inside, reach}
 
 -- how many are open of each layer
-abbrev counted : Opened → List ℕ
+abbrev pub counted : Opened → List ℕ
 counted o = o.whole ∷ o.sub ∷ []
 
 module _ (w s n1 : ℕ) where
@@ -40,20 +41,21 @@ module _ (w s n1 : ℕ) where
       (λ key h. let k = in_goes w s n1 r used o key h in let e = k.1 in let m = goes_enough k.0 used o k.3 in omega arith)
 
   -- ---- all is open
-  goes_to : (cs used : List ℕ) (o q : Opened) → o.sub ≤ s → Goes w s n1 used o cs q → To (w ∷ s ∷ []) (counted o) cs (counted q)
-  goes_to [] used o q l h = subst₂ (λ (x y : ℕ). To (w ∷ s ∷ []) (counted o) [] (x ∷ y ∷ [])) h.0 h.1 done
-  goes_to (c ∷ cs) used o q l h =
-      go h.1.0 (λ k. goes_to cs (used ++ c ∷ []) h.1.0 q k h.1.2) (move_of w s n1 used o c cs q h)
+  -- one column and what is read after it
+  pub move_to : {cs qs : List ℕ} (o : Opened) (c : ℕ) (p : Opened) → o.sub ≤ s → (p.sub ≤ s → Reaches (w ∷ s ∷ []) (counted p) cs qs) → Move w s o c p → Reaches (w ∷ s ∷ []) (counted o) (c ∷ cs) qs
+  move_to {cs} {qs} o c p l r m = go m
     where
-      from : {p : Opened} (a b : ℕ) → p.whole ≡ a → p.sub ≡ b → b ≤ s → (p.sub ≤ s → To (w ∷ s ∷ []) (counted p) cs (counted q)) → To (w ∷ s ∷ []) (a ∷ b ∷ []) cs (counted q)
-      from a b e f k r = subst₂ (λ (x y : ℕ). To (w ∷ s ∷ []) (x ∷ y ∷ []) cs (counted q)) e f (r (omega arith))
+      from : (a b : ℕ) → p.whole ≡ a → p.sub ≡ b → b ≤ s → Reaches (w ∷ s ∷ []) (a ∷ b ∷ []) cs qs
+      from a b e f k = subst₂ (λ (x y : ℕ). Reaches (w ∷ s ∷ []) (x ∷ y ∷ []) cs qs) e f (r (omega arith))
 
-      go : (p : Opened) → (p.sub ≤ s → To (w ∷ s ∷ []) (counted p) cs (counted q)) → Move w s o c p → To (w ∷ s ∷ []) (counted o) (c ∷ cs) (counted q)
-      go p r (by_s k e x) =
-          opens (next_s w s o.whole o.sub c k e) (from o.whole (suc o.sub) (ap (λ (z : Opened). z.whole) x) (ap (λ (z : Opened). z.sub) x ∙ add-one o.sub) (omega arith) r)
-      go p r (by_w k e i x) =
-          opens (here k e (top_open w s o.sub c l i)) (from (suc o.whole) o.sub (ap (λ (z : Opened). z.whole) x ∙ add-one o.whole) (ap (λ (z : Opened). z.sub) x) l r)
-      go p r (by_none k i x) = stays (k, top_open w s o.sub c l i) (from o.whole o.sub (ap (λ (z : Opened). z.whole) x) (ap (λ (z : Opened). z.sub) x) l r)
+      go : Move w s o c p → Reaches (w ∷ s ∷ []) (counted o) (c ∷ cs) qs
+      go (by_s k e x) = opens (next_s w s o.whole o.sub c k e) (from o.whole (suc o.sub) (ap (λ (z : Opened). z.whole) x) (ap (λ (z : Opened). z.sub) x ∙ add-one o.sub) (omega arith))
+      go (by_w k e i x) = opens (here k e (top_open w s o.sub c l i)) (from (suc o.whole) o.sub (ap (λ (z : Opened). z.whole) x ∙ add-one o.whole) (ap (λ (z : Opened). z.sub) x) l)
+      go (by_none k i x) = stays (k, top_open w s o.sub c l i) (from o.whole o.sub (ap (λ (z : Opened). z.whole) x) (ap (λ (z : Opened). z.sub) x) l)
+
+  goes_to : (cs used : List ℕ) (o q : Opened) → o.sub ≤ s → Goes w s n1 used o cs q → Reaches (w ∷ s ∷ []) (counted o) cs (counted q)
+  goes_to [] used o q l h = subst₂ (λ (x y : ℕ). Reaches (w ∷ s ∷ []) (counted o) [] (x ∷ y ∷ [])) h.0 h.1 done
+  goes_to (c ∷ cs) used o q l h = move_to o c h.1.0 l (λ k. goes_to cs (used ++ c ∷ []) h.1.0 q k h.1.2) (move_of w s n1 used o c cs q h)
 
   no_fits : Fits (w ∷ s ∷ []) (0 ∷ 0 ∷ [])
   no_fits = (omega arith, (omega arith, tt))

@@ -1,7 +1,8 @@
 -- The keys of a walk from the counted columns, branch by branch.
-use Rattle.std.proofs.Common.{◌≡◌, ℕ, ◌+◌, ◌-◌, ◌*◌, ◌%◌, ◌^◌, ◌<◌, ◌≤◌, Bool, true, cond, ltb, List, [], ◌∷◌, ◌++◌, length, Some, None, sym, ap, ◌∙◌, subst, ap₂, subst₂, append_assoc, append-nil, add-one, arith, ltb-true, lt-ltb}
+use Rattle.std.proofs.Common.{◌≡◌, ℕ, ◌+◌, ◌-◌, ◌*◌, ◌/◌, ◌%◌, ◌^◌, ◌<◌, ◌≤◌, Bool, true, false, cond, ltb, List, [], ◌∷◌, ◌++◌, length, Some, None, sym, refl, ap, ◌∙◌, subst, ap₂, subst₂, append_assoc, append-nil, add-one, arith, ltb-true, lt-ltb}
 use Rattle.std.proofs.lemmas.Nat.{one_shl}
 use Rattle.std.proofs.lemmas.List.{length_push, length-take-le}
+use Rattle.std.proofs.lemmas.Bool.{cond-true, cond-false}
 use Rattle.opening.specs.declared.Shape.{Shape}
 use Rattle.opening.specs.Shapes.{units_of, factors_of}
 use Rattle.figures.specs.declared.counts.Counts.{Counts}
@@ -9,10 +10,10 @@ use Rattle.figures.specs.Counted.{columns_in, room_for}
 use Rattle.figures.proofs.Rooms.{word_small}
 use Rattle.finding.specs.declared.begun.Begun.{Begun}
 use Rattle.finding.specs.declared.opened.Opened.{Opened}
-use Rattle.finding.specs.Walks.{is_all, closed_in, go_on, upto, keys_from, next_in, keys_after, branch_after}
+use Rattle.finding.specs.Walks.{is_all, closed_in, after, held, is_in_layer, go_on, upto, keys_from, next_in, keys_after, branch_after}
 use Rattle.finding.specs.Listing.{In, Begins}
 use Rattle.finding.proofs.Steps.{leaf, node}
-use Rattle.finding.proofs.Members.{in_goes}
+use Rattle.finding.proofs.Members.{in_goes, branch_in}
 use Rattle.finding.proofs.Standard.{too_few}
 
 -- what holds with the keys of one branch more
@@ -46,6 +47,18 @@ module _ (begun : Begun) where
       let size : length (columns_in counts) ≡ counts.placed = length-take-le counts.placed counts.columns (omega (arith, counts.few, counts.long.0)) in
       rw (lt-ltb counts.placed 10 (omega (arith, few, counts.shape.units.4, counts.shape.spare.1)), lt-ltb c (2 ^ units_of counts.shape) h)
 
+  -- a word of the layer of the next factor that is no column yet may stand where it is standard, as the code tests it
+  pub next_by : (c : ℕ) (read : Shape) → read ≡ counts.shape → (xs : List ℕ) → xs ≡ columns_in counts → is_in_layer read.w read.n1 (length xs) c ≡ true
+      → (begun.used / 2 ^ c % 2 ≡ 1 → ⊥) → after read.w read.s o c ≡ next_in counts o c
+  next_by c read same xs are layer new =
+      ap (λ (sh : Shape). after sh.w sh.s o c) same
+      ∙ sym (cond-true (is_in_layer counts.shape.w counts.shape.n1 (length (columns_in counts)) c) _ _ (subst₂ (λ (sh : Shape) (ys : List ℕ). is_in_layer sh.w sh.n1 (length ys) c ≡ true) same are layer)
+      ∙ cond-false (held c (columns_in counts)) _ _ (unused (held c (columns_in counts)) (begun.marks c)))
+    where
+      unused : (b : Bool) → begun.used / 2 ^ c % 2 ≡ cond b 1 0 → b ≡ false
+      unused true e = absurd (new e)
+      unused false e = refl
+
   -- the branches of all words are all keys
   pub branches : (n : ℕ) (read : Shape) → read ≡ counts.shape → n ≡ 2 ^ units_of read → upto (branch_after counts o) n ≡ keys_after counts o
   branches n read same e =
@@ -67,6 +80,12 @@ module _ (begun : Begun) where
 
   -- ---- the branch of one word
   module _ (c : ℕ) where
+    -- its keys begin with the columns and it
+    pub branch-begins : (key : List ℕ) → In key (branch_after counts o c) → Begins (columns_in counts ++ c ∷ []) key
+    branch-begins key i =
+        let m = branch_in counts.shape.w counts.shape.s counts.shape.n1 (factors_of counts.shape - length (columns_in counts) - 1) (columns_in counts) o c key i in
+        (m.0, m.1 ∙ sym (append_assoc (columns_in counts) (c ∷ []) m.0))
+
     -- it may not stand next
     pub no_branch : next_in counts o c ≡ None → branch_after counts o c ≡ []
     no_branch e = rw e

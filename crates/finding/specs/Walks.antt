@@ -1,9 +1,11 @@
 -- The keys of a walk: column by column, each word in its turn. Assumes nothing.
 --
 -- There are w whole-plot unit factors W and s subplot unit factors S, n1 whole-plot factors and then n2 subplot factors.
-use Rattle.std.specs.Prelude.{◌≡◌, ℕ, zero, suc, ◌+◌, ◌-◌, ◌/◌, ◌%◌, ◌^◌, ◌≤◌, Bool, true, false, cond, ◌&&◌, List, [], ◌∷◌, ◌++◌, length, Some, None, Option, ◌==◌, nat_le, nat_lt, refl}
+use Rattle.std.specs.Prelude.{◌≡◌, ℕ, zero, suc, ◌+◌, ◌-◌, ◌/◌, ◌%◌, ◌^◌, ◌≤◌, Bool, true, false, cond, ◌&&◌, List, [], ◌∷◌, ◌++◌, length, Some, None, Option, ◌==◌, nat_le, nat_lt, slice_index, slice_set, refl}
+use Rattle.theory.specs.Keys.{none}
+use Rattle.exchange.specs.Reaching.{Reaches}
 use Rattle.opening.specs.declared.Shape.{Shape}
-use Rattle.opening.specs.Shapes.{factors_of}
+use Rattle.opening.specs.Shapes.{layers_of, factors_of}
 use Rattle.figures.specs.declared.counts.Counts.{Counts}
 use Rattle.figures.specs.Counted.{columns_in}
 use Rattle.finding.specs.declared.opened.Opened.{Opened}
@@ -32,6 +34,36 @@ after w s o c =
     (cond (nat_lt (c % 2 ^ w) (2 ^ o.whole)) (Some o)
     (cond (nat_lt o.whole w) (cond (c % 2 ^ w == 2 ^ o.whole) (Some (record { whole = o.whole + 1; sub = o.sub })) None) None))
     (cond (nat_lt o.sub s) (cond (c == 2 ^ (w + o.sub)) (Some (record { whole = o.whole; sub = o.sub + 1 })) None) None)
+
+-- what is open after the columns, from o open; none where one of them is not standard in its place
+abbrev pub then_open : Option Opened → (Opened → Option Opened) → Option Opened
+then_open None f = None
+then_open (Some o) f = f o
+
+abbrev pub open_after : (w s : ℕ) → Opened → List ℕ → Option Opened
+open_after w s o [] = Some o
+open_after w s o (c ∷ cs) = then_open (after w s o c) (λ p. open_after w s p cs)
+
+-- just these are open; and the columns are standard each in its place, and leave just these open
+abbrev pub just_open : Option Opened → Opened → Bool
+just_open None o = false
+just_open (Some p) o = p.whole == o.whole && p.sub == o.sub
+
+abbrev pub leave_open : (w s : ℕ) → List ℕ → Opened → Bool
+leave_open w s cs o = just_open (open_after w s none_open cs) o
+
+-- the columns with c in one place, and what stood there at the end
+abbrev pub traded : List ℕ → ℕ → ℕ → List ℕ
+traded cs c place = slice_set cs place c ++ slice_index cs place ∷ []
+
+-- read so they leave just these open, as a test
+abbrev pub traded_leave : (w s : ℕ) → List ℕ → ℕ → ℕ → Opened → Bool
+traded_leave w s cs c place o = leave_open w s (traded cs c place) o
+
+-- c behind the columns may change places with one of them: read either way they leave the same open
+abbrev pub Tradable : Shape → List ℕ → ℕ → ℕ → Type 0
+Tradable shape cs c place =
+    (os : List ℕ) × Reaches (layers_of shape) (none (layers_of shape)) (cs ++ c ∷ []) os × Reaches (layers_of shape) (none (layers_of shape)) (traded cs c place) os
 
 -- c is one of the columns
 abbrev pub held : ℕ → List ℕ → Bool
@@ -90,3 +122,10 @@ standard_keys shape = all_keys shape.w shape.s shape.n1 shape.n2
 example_keys : all_keys 2 1 1 3 ≡ (1 ∷ 4 ∷ 5 ∷ 6 ∷ []) ∷ (1 ∷ 4 ∷ 6 ∷ 5 ∷ []) ∷ (1 ∷ 4 ∷ 6 ∷ 7 ∷ []) ∷ []
 unfolding keys_from
 example_keys = refl
+
+-- behind 1, 4, 6 the column 5 may change places with 6, and not with 4, which opens S1
+example_traded : traded_leave 2 1 (1 ∷ 4 ∷ 6 ∷ []) 5 2 (record { whole = 2; sub = 1 }) ≡ true
+example_traded = refl
+
+example_not_traded : traded_leave 2 1 (1 ∷ 4 ∷ 6 ∷ []) 5 1 (record { whole = 2; sub = 1 }) ≡ false
+example_not_traded = refl

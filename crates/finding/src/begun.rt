@@ -1,9 +1,9 @@
 //! Keys that are begun: their first columns, and which column may stand next.
 
-ghost use Rattle.std.specs.Prelude.{◌≡◌, suc, ◌-◌, ◌^◌, ◌<◌, [], ◌∷◌, ◌++◌, length, Some, nat_lt};
+ghost use Rattle.std.specs.Prelude.{◌≡◌, suc, ◌-◌, ◌^◌, ◌<◌, true, [], ◌∷◌, ◌++◌, length, Some, nat_lt};
 ghost use Rattle.opening.specs.Shapes.{units_of, factors_of};
 ghost use Rattle.figures.specs.Counted.{columns_in};
-ghost use Rattle.finding.specs.Walks.{none_open, Within, Marks, is_in_layer, next_in, closed_in};
+ghost use Rattle.finding.specs.Walks.{none_open, Within, Marks, is_in_layer, next_in, closed_in, open_after, leave_open, traded, traded_leave};
 
 use crate::opened::Opened;
 use figures::counts::Counts;
@@ -20,6 +20,7 @@ pub struct Begun {
     ghost few: { length (columns_in counts) < factors_of counts.shape },
     ghost marks: { Marks used (columns_in counts) },
     ghost within: { Within counts.shape.w counts.shape.s opened },
+    ghost leaves: { leave_open counts.shape.w counts.shape.s (columns_in counts) opened ≡ true },
 }
 
 /// Whether a word lies in the layer of a factor, counted from 0.
@@ -75,6 +76,34 @@ impl Begun {
             return None;
         }
         self.opened.after(shape, column)
+    }
+
+    /// What is open after the columns with this one in one place and what stood there at the end; none
+    /// where they cannot be read so.
+    fn opened_traded(&self, column: u8, place: usize) -> Option<Opened>
+        requires { place < length (columns_in self.now.counts) }
+        ensures { result ≡ open_after self.now.counts.shape.w self.now.counts.shape.s none_open (traded (columns_in self.now.counts) column place) }
+    {
+        let shape = self.counts.shape();
+        let columns = self.counts.columns();
+        let mut opened = Opened { whole: 0, sub: 0 };
+        for i in 0..columns.len() {
+            let read = if i == place { column } else { columns[i] };
+            opened = opened.after(shape, read)?;
+        }
+        opened.after(shape, columns[place])
+    }
+
+    /// Whether the columns leave just this open with this one in one place and what stood there at the
+    /// end.
+    pub fn leaves_traded(&self, column: u8, place: usize, opened: Opened) -> bool
+        requires { place < length (columns_in self.now.counts) }
+        ensures { result ≡ traded_leave self.now.counts.shape.w self.now.counts.shape.s (columns_in self.now.counts) column place opened }
+    {
+        match self.opened_traded(column, place) {
+            Some(other) => other.whole == opened.whole && other.sub == opened.sub,
+            None => false,
+        }
     }
 
     /// The same with one more column that may stand next, and what is then open.

@@ -4,8 +4,9 @@ ghost use Rattle.std.specs.Prelude.{◌≡◌};
 ghost use Rattle.figures.specs.Counted.{columns_in};
 ghost use Rattle.wishes.specs.Standings.{wishes_in};
 ghost use Rattle.finding.specs.Best.{by_tally, Finding, Wished};
-ghost use Rattle.finding.specs.Leading.{beats, KeepsPassing};
+ghost use Rattle.finding.specs.Leading.{beats, KeepsPassing, MayExchange};
 
+use crate::exchanges::Exchanges;
 use crate::visit::Visit;
 use crate::walk::visit_standard_keys;
 use figures::counts::Counts;
@@ -21,10 +22,13 @@ pub struct Kept<S: Copy> {
 }
 
 /// Compares each key by its ranking with the best so far, and takes it only where it fails no wish.
+///
+/// Keys that come earlier with two factors exchanged are passed over.
 #[derive(Drop)]
 pub struct Judge<'a, R: Ranking> {
     pub ranking: &'a R,
     pub standing: &'a Standing,
+    pub exchanges: Exchanges,
     pub best: Option<Kept<R::Score>>,
 }
 
@@ -44,7 +48,7 @@ impl<'a, R: Ranking> Judge<'a, R> {
 }
 
 impl<'a, R: Ranking> Visit for Judge<'a, R> {
-    ghost saw = { λ shape u keys v. (v.ranking.now ≡ u.ranking.now) × (v.standing.now ≡ u.standing.now) × KeepsPassing shape (wishes_in u.standing.now) (R.scored u.ranking.now) (R.ranked u.ranking.now) keys v.best };
+    ghost saw = { λ shape u keys v. (v.ranking.now ≡ u.ranking.now) × (v.standing.now ≡ u.standing.now) × MayExchange shape u.standing.now v.exchanges × KeepsPassing shape (wishes_in u.standing.now) (R.scored u.ranking.now) (R.ranked u.ranking.now) keys v.best };
 
     /// The wishes are asked last, since few keys are better than the best so far.
     fn visit(&mut self, counts: &Counts, column: u8) {
@@ -66,6 +70,15 @@ impl<'a, R: Ranking> Visit for Judge<'a, R> {
     fn leave(&self, counts: &Counts) -> bool {
         self.standing.any_fails(counts)
     }
+
+    /// With the two columns exchanged they come earlier, and are as good.
+    fn passes_over(&self, counts: &Counts, column: u8, place: usize) -> bool {
+        let columns = counts.columns();
+        if place >= columns.len() || column >= columns[place] {
+            return false;
+        }
+        self.exchanges.holds(place, columns.len())
+    }
 }
 
 /// The columns of the first best standard key that meets the standing wishes; none where no standard
@@ -76,6 +89,7 @@ pub fn first_best_columns<'a, R: Ranking>(ranking: &'a R, standing: &'a Standing
     let mut judge = Judge {
         ranking,
         standing,
+        exchanges: Exchanges::under(standing),
         best: None,
     };
     visit_standard_keys(standing.shape(), &mut judge);

@@ -3,6 +3,7 @@
 ghost use Rattle.std.specs.Prelude.{◌≡◌, ℕ, true, T, List, [], ◌∷◌, ◌++◌};
 ghost use Rattle.opening.specs.declared.Shape.{Shape};
 ghost use Rattle.figures.specs.Counted.{columns_in, room_for};
+ghost use Rattle.finding.specs.Walks.{Tradable};
 ghost use Rattle.finding.specs.Listing.{In, Begins};
 
 use figures::counts::Counts;
@@ -22,6 +23,14 @@ pub trait Visit: Sized {
     fn leave(&self, counts: &Counts) -> bool
         ensures { T result → (u : Self) (keys more : List (List ℕ)) → ((key : List ℕ) → In key more → Begins (columns_in counts.now) key) → saw counts.now.shape u keys self.now → saw counts.now.shape u (keys ++ more) self.now }
     {
-        false
+        false // no branch is left
+    }
+
+    /// Whether keys that begin with the counted columns and this one would change nothing, where this
+    /// one may change places with the one at a place before it.
+    fn passes_over(&self, counts: &Counts, column: u8, place: usize) -> bool
+        ensures { T result → Tradable counts.now.shape (columns_in counts.now) column place → (u : Self) (keys more : List (List ℕ)) → ((key : List ℕ) → In key more → Begins (columns_in counts.now ++ column ∷ []) key) → saw counts.now.shape u keys self.now → saw counts.now.shape u (keys ++ more) self.now }
+    {
+        false // no key is passed over
     }
 }

@@ -3,3 +3,4 @@ pub mod Soundness
 pub mod Filling
 pub mod Rows
 pub mod Fronts
+pub mod Lengths

@@ -1,3 +1,5 @@
+pub mod Rests
 pub mod Opens
 pub mod Ranks
+pub mod Wishings
 pub mod Commands

@@ -1,8 +1,10 @@
-//! The lines of a sheet from the third on: `find`, `layout`, `chain e`.
+//! The lines of a sheet from the third on.
 ghost use Rattle.std.specs.Prelude.{◌≡◌};
 ghost use Rattle.sheet.specs.Left.{words_left};
-ghost use Rattle.lines.specs.Commands.{commands, no_words_left, only_effect};
+ghost use Rattle.lines.specs.Commands.{commands};
 
+use crate::rest::{none_left, one_effect};
+use crate::wish::{WishNumbers, read_wish};
 use sheet::fault::LineFault;
 use sheet::reader::Line;
 use sheet::token::{Token, same};
@@ -10,6 +12,10 @@ use sheet::token::{Token, same};
 /// What a line asks of the planner.
 #[derive(Clone, Copy)]
 pub enum Command {
+    /// Add a wish.
+    Wish(WishNumbers),
+    /// Strike a wish.
+    Strike(WishNumbers),
     /// Find the best plan.
     Find,
     /// Lay out the standing plan.
@@ -28,6 +34,8 @@ pub fn read_command(mut line: Line<'_>, n1: u8, n2: u8) -> Result<Command, LineF
         });
     };
     match head.bytes {
+        word if same(word, b"wish") => Ok(Command::Wish(read_wish(line, n1, n2)?)),
+        word if same(word, b"strike") => Ok(Command::Strike(read_wish(line, n1, n2)?)),
         word if same(word, b"find") => {
             none_left(line)?;
             Ok(Command::Find)
@@ -39,29 +47,4 @@ pub fn read_command(mut line: Line<'_>, n1: u8, n2: u8) -> Result<Command, LineF
         word if same(word, b"chain") => Ok(Command::Chain(one_effect(line, n1, n2)?)),
         _ => Err(LineFault::Word(Token::Word(head).fault())),
     }
-}
-
-// Refuses a line that has words left.
-fn none_left(mut line: Line<'_>) -> Result<(), LineFault>
-    ensures { result ≡ no_words_left line.entry.number (words_left line.entry) }
-{
-    match line.next_word() {
-        None => Ok(()),
-        Some(_) => Err(LineFault::Count {
-            line: line.number(),
-        }),
-    }
-}
-
-// The effect that the one word left writes.
-fn one_effect(mut line: Line<'_>, n1: u8, n2: u8) -> Result<u16, LineFault>
-    ensures { result ≡ only_effect n1 n2 line.entry.number (words_left line.entry) }
-{
-    let (Some(group), None) = (line.next_word(), line.next_word()) else {
-        return Err(LineFault::Count {
-            line: line.number(),
-        });
-    };
-    let effect = Token::Letters(group).effect(n1, n2)?;
-    Ok(effect)
 }

@@ -5,3 +5,5 @@
 pub mod command;
 pub mod opening;
 pub mod ranking;
+mod rest;
+pub mod wish;

@@ -2,7 +2,7 @@
 
 #![tactic(auto)]
 
-ghost use Rattle.std.specs.Prelude.{◌≤◌, length, IfOk};
+ghost use Rattle.std.specs.Prelude.{◌≡◌, ◌≤◌, length, IfOk};
 
 use answers::session::Session;
 use std::io;
@@ -44,8 +44,20 @@ fn answer_sheet(rt: &HostRuntime, sheet: &[u8]) -> io::Result<()> {
     Ok(())
 }
 
+/// Says on standard error what could not be done, where the result is an error.
+fn explained<T>(rt: &HostRuntime, res: io::Result<T>, what: &str) -> io::Result<T>
+    ensures { result ≡ res }
+{
+    if res.is_err() {
+        let _ = eprintln!(rt; "plan: {what}");
+    }
+    res
+}
+
 fn main(rt: HostRuntime) -> io::Result<()> {
     let mut sheet = [0u8; MOST];
-    let size = read_sheet(&rt, &mut sheet)?;
-    answer_sheet(&rt, &sheet[0..size])
+    let read = read_sheet(&rt, &mut sheet);
+    let size = explained(&rt, read, "standard input cannot be read")?;
+    let written = answer_sheet(&rt, &sheet[0..size]);
+    explained(&rt, written, "the answers cannot be written")
 }

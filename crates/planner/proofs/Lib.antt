@@ -1,3 +1,4 @@
+pub mod Signs
 pub mod Promises
 pub mod Going
 pub mod Changing

@@ -1,5 +1,5 @@
 -- What a lawful history promises.
-use Rattle.std.proofs.Common.{◌≡◌, ℕ, Bool, true, false, cond, not, ◌&&◌, List, [], ◌∷◌, ◌++◌, Some, None, Ok, Err, Option, Result, sym, refl, ap, subst, arith}
+use Rattle.std.proofs.Common.{◌≡◌, ℕ, Bool, true, false, cond, not, ◌&&◌, ◌⊎◌, List, [], ◌∷◌, ◌++◌, Some, None, Ok, Err, Option, Result, sym, refl, ap, ◌∙◌, subst, ap₂, inl, inr, arith}
 use Rattle.std.proofs.lemmas.Bool.{and_parts}
 use Rattle.theory.specs.declared.refusal.Refusal.{Refusal}
 use Rattle.theory.specs.declared.refusal.Refusal.TheVariants.{NoKey, WishKind, WishForm}
@@ -9,7 +9,6 @@ use Rattle.opening.specs.declared.Shape.{Shape}
 use Rattle.opening.specs.Shapes.{layers_of, factors_of}
 use Rattle.key.specs.declared.Key.{Key}
 use Rattle.key.specs.Questions.{columns_of}
-use Rattle.key.proofs.Soundness.{sign_laws}
 use Rattle.ranking.specs.declared.verdict.Verdict.{Verdict}
 use Rattle.wishes.specs.Forms.{wish_of, forming, checked, second_fits}
 use Rattle.wishes.specs.Lists.{all_formed, same_wish}
@@ -20,8 +19,9 @@ use Rattle.finding.specs.Best.{FirstBest, Wished, BestSound, NoSound}
 use Rattle.planner.specs.declared.effect.Effect.{Effect}
 use Rattle.planner.specs.declared.effect.Effect.TheVariants.{NoPlan, Stays, Falls}
 use Rattle.planner.specs.Entries.{Entry, add, strike, find, ask}
-use Rattle.planner.specs.Rules.{Added, AddedTo, AddedBy, Found, wish_list, struck_from}
+use Rattle.planner.specs.Rules.{Ruled, Added, AddedTo, AddedBy, Found, wish_list, struck_from, wishes_after, plan_after}
 use Rattle.planner.specs.Histories.{standing, plan_of, Lawful, Promise}
+use Rattle.planner.proofs.Signs.{sign_promise}
 
 -- ---- options and results
 none_some : {X : Type 0} (x : X) → ◌≡◌ {A = Option X} None (Some x) → ⊥
@@ -126,5 +126,5 @@ module _ (shape : Shape) (ranks : List ℕ → List ℕ → Verdict)
     stands = plan_best h l;
     refused = refused_none (standing h);
     granted = none_refused (standing h);
-    signs = λ plan _. sign_laws plan;
+    signs = λ plan _ says asked. sign_promise plan says asked;
   }

@@ -4,16 +4,18 @@
 use Rattle.std.specs.Prelude.{◌≡◌, ℕ, List, [], ◌∷◌, Some, None, Err, Option, Result}
 use Rattle.theory.specs.declared.refusal.Refusal.{Refusal}
 use Rattle.theory.specs.declared.refusal.Refusal.TheVariants.{NoKey}
+use Rattle.theory.specs.declared.sign.Sign.{Sign}
 use Rattle.theory.specs.declared.tally.Tally.{Tally}
 use Rattle.theory.specs.declared.wish.Wish.{Wish}
 use Rattle.opening.specs.declared.Shape.{Shape}
 use Rattle.key.specs.declared.Key.{Key}
-use Rattle.key.specs.Questions.{columns_of, SignLaws}
+use Rattle.key.specs.Questions.{columns_of}
 use Rattle.ranking.specs.declared.verdict.Verdict.{Verdict}
 use Rattle.wishes.specs.Standings.{wishes_in}
 use Rattle.planner.specs.Entries.{Entry}
 use Rattle.finding.specs.Best.{by_tally, BestSound, NoSound}
 use Rattle.planner.specs.Rules.{Ruled, Idle, wishes_after, plan_after, Found}
+use Rattle.planner.specs.Signs.{Says, SignPromise}
 use Rattle.planner.specs.declared.planner.Planner.{Planner}
 
 -- the wishes that stand after a history, in the order in which they came
@@ -40,9 +42,9 @@ pub record Promise (shape : Shape) (ranks : List ℕ → List ℕ → Verdict) (
   -- finding, if called next, is refused exactly when no sound key meets the standing wishes
   pub refused : (r : Result Key Refusal) → Found shape ranks (standing h) r → r ≡ Err NoKey → NoSound shape (standing h)
   pub granted : (r : Result Key Refusal) → Found shape ranks (standing h) r → NoSound shape (standing h) → r ≡ Err NoKey
-  -- the signs of a standing plan's effects agree in every run exactly when one chain holds both, else in exactly half of
-  -- the runs; and the like within each whole plot
-  pub signs : (plan : Key) → plan_of h ≡ Some plan → SignLaws plan
+  -- where a plan stands, whatever the sign question answers of the effects in the runs is alike for two effects in every run
+  -- exactly when one chain holds both, else in exactly half of the runs; and the like within each whole plot
+  pub signs : (plan : Key) → plan_of h ≡ Some plan → (says : ℕ → ℕ → Result Sign Refusal) → Says plan says → SignPromise plan says
 
 -- what the planner's ranking says of two keys of its shape: the verdict on the scores of their tallies
 abbrev pub ranks_of : {R S : Type 0} → (R → Tally → S) → (R → S → S → Verdict) → Planner R → List ℕ → List ℕ → Verdict

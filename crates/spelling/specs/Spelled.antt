@@ -6,13 +6,17 @@ use Rattle.text.specs.Texts.{put}
 use Rattle.theory.specs.Refusals.{refusal_number}
 use Rattle.theory.specs.declared.refusal.Refusal.{Refusal}
 use Rattle.theory.specs.declared.refusal.Refusal.TheVariants.{NoPlan, ShortBuffer}
-use Rattle.key.specs.Questions.{columns_of, layout_of}
+use Rattle.key.specs.Questions.{columns_of}
+use Rattle.key.specs.declared.Key.{Key}
+use Rattle.planner.specs.Effects.{effect_number}
+use Rattle.planner.specs.declared.effect.Effect.{Effect}
+use Rattle.planner.specs.declared.effect.Effect.TheVariants.{Falls}
 use Rattle.sheet.specs.Faults.{fault_number, fault_place}
 use Rattle.sheet.specs.Letters.{letter_of, letters_of, letters_from}
 use Rattle.sheet.specs.declared.fault.SheetFault.{SheetFault}
 use Rattle.sheet.specs.declared.fault.SheetFault.TheVariants.{Form}
 use Rattle.spelling.specs.declared.answer.Answer.{Answer}
-use Rattle.spelling.specs.declared.answer.Answer.TheVariants.{Nothing, Plan, Rows, Chain, Refused, Fault}
+use Rattle.spelling.specs.declared.answer.Answer.TheVariants.{Nothing, Granted, Plan, Rows, Chain, Refused, Fault}
 
 -- a factor's letter and its column, after a space: ` A=1`
 abbrev pub column_text : ℕ → ℕ → ℕ → List ℕ
@@ -25,6 +29,10 @@ columns_text n1 cs = flat_map (λ i. column_text n1 i (slice_index cs i)) (range
 -- `key` and each factor's column
 abbrev pub plan_text : ℕ → List ℕ → List ℕ
 plan_text n1 cs = codes "key" ++ columns_text n1 cs ++ codes "\n"
+
+-- `ok` and the number of what becomes of the plan
+abbrev pub granted_text : Effect → List ℕ
+granted_text effect = codes "ok " ++ decimal (effect_number effect) ++ codes "\n"
 
 -- the i-th effect of a list as letters, with a space before it unless it is the first
 abbrev pub effect_text : ℕ → List ℕ → ℕ → List ℕ
@@ -47,7 +55,8 @@ fault_text fault =
 abbrev pub answer_text : Answer → List ℕ
 answer_text Nothing = []
 answer_text (Plan key) = plan_text key.shape.n1 (columns_of key)
-answer_text (Rows key) = layout_of key
+answer_text (Granted effect) = granted_text effect
+answer_text (Rows rows) = take rows.size rows.text
 answer_text (Chain effects) = effects_text effects.n1 (take effects.size effects.list)
 answer_text (Refused refusal line) = refused_text refusal line
 answer_text (Fault fault) = fault_text fault
@@ -62,6 +71,10 @@ Put answer out (Ok size) out' =
 example_plan : plan_text 1 (1 ∷ 4 ∷ 5 ∷ 6 ∷ []) ≡ codes "key A=1 p=4 q=5 r=6\n"
 unfolding digits
 example_plan = refl
+
+example_granted : granted_text Falls ≡ codes "ok 2\n"
+unfolding digits
+example_granted = refl
 
 example_effects : effects_text 1 (0 ∷ 7 ∷ []) ≡ codes "0 Apq\n"
 unfolding letters_from

@@ -5,6 +5,7 @@ ghost use Rattle.sheet.specs.Cuts.{lines, numbered};
 ghost use Rattle.sheet.specs.Left.{lines_left};
 ghost use Rattle.spelling.specs.Spelled.{answer_text};
 ghost use Rattle.answers.specs.Sessions.{first_stage, Taken, Answered};
+ghost use Rattle.answers.specs.Laws.{Kept};
 
 use super::Session;
 use crate::stage::Stage;
@@ -18,6 +19,7 @@ impl<'a> Session<'a> {
     pub fn new(sheet: &'a [u8]) -> Session<'a>
         ensures lines { lines_left result.reader ≡ numbered 1 (lines sheet.now) }
         ensures stage { result.stage ≡ first_stage sheet.now }
+        ensures kept { Kept result.stage }
     {
         let stage = match well_formed(sheet) {
             Ok(()) => Stage::Opening,
@@ -59,10 +61,12 @@ impl<'a> Session<'a> {
 
     /// Writes the answer to the next line into the buffer, past the end nothing, and tells its length.
     ///
-    /// A buffer of fewer than 1,024 bytes is refused before all else.
+    /// A buffer of fewer than 1,024 bytes is refused before all else. Along the whole sheet the planner's
+    /// promise holds.
     pub fn answer(&mut self, out: &mut [u8]) -> Result<usize, Refusal>
         ensures outcome { Answered self.old out.old result self.new out.new }
         ensures within { IfOk result (λ size. size ≤ length out.old) }
+        ensures kept { Kept self.old.stage → Kept self.new.stage }
     {
         if out.len() < 1024 {
             return Err(Refusal::ShortBuffer);

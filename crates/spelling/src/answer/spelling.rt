@@ -4,10 +4,11 @@ ghost use Rattle.std.specs.Prelude.{◌≡◌, ℕ, ◌+◌, ◌*◌, ◌<◌, �
 ghost use Rattle.std.specs.List.{range_with_len, flat_map};
 ghost use Rattle.text.specs.Texts.{put};
 ghost use Rattle.key.specs.Questions.{columns_of};
-ghost use Rattle.spelling.specs.Spelled.{column_text, columns_text, plan_text, effect_text, effects_text, refused_text, fault_text, answer_text, Put};
+ghost use Rattle.spelling.specs.Spelled.{column_text, columns_text, plan_text, granted_text, effect_text, effects_text, refused_text, fault_text, answer_text, Put};
 
 use super::Answer;
 use key::Key;
+use planner::effect::Effect;
 use sheet::fault::SheetFault;
 use sheet::letters::{letter, put_letters};
 use text::{put_bytes, put_number};
@@ -52,6 +53,18 @@ fn put_plan(out: &mut [u8], key: &Key) -> usize
 {
     let end = put_bytes(out, 0, b"key");
     let end = put_columns(out, end, key.shape().n1, key.columns());
+    put_bytes(out, end, b"\n")
+}
+
+/// Writes `ok` and the number of the effect on the plan.
+fn put_granted(out: &mut [u8], effect: Effect) -> usize
+    requires { 1024 ≤ length out.old }
+    ensures value { result ≡ length (granted_text effect) }
+    ensures after { out.new ≡ put out.old 0 (granted_text effect) }
+    ensures within { result ≤ length out.old }
+{
+    let end = put_bytes(out, 0, b"ok ");
+    let end = put_number(out, end, usize::from(effect.number()));
     put_bytes(out, end, b"\n")
 }
 
@@ -127,10 +140,8 @@ impl Answer {
         match self {
             Answer::Nothing => 0,
             Answer::Plan(key) => put_plan(out, &key),
-            Answer::Rows(key) => match key.layout(out) {
-                Ok(size) => size,
-                Err(_) => unreachable(),
-            },
+            Answer::Granted(effect) => put_granted(out, effect),
+            Answer::Rows(rows) => put_bytes(out, 0, &rows.text[0..rows.size]),
             Answer::Chain(effects) => put_effects(out, effects.n1, &effects.list[0..effects.size]),
             Answer::Refused(refusal, line) => put_refused(out, refusal, line),
             Answer::Fault(fault) => put_fault(out, fault),

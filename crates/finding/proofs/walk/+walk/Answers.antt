@@ -1,10 +1,10 @@
-use Rattle.std.proofs.Common.{ℕ, ◌^◌, ◌<◌, true, false, List, ◌++◌, sym, ◌∙◌, subst, subst₂, append-nil, arith, rules}
+use Rattle.std.proofs.Common.{ℕ, ◌^◌, ◌<◌, true, false, List, ◌++◌, sym, refl, ◌∙◌, subst, subst₂, append-nil, arith, rules}
 use Rattle.opening.specs.declared.Shape.{Shape}
 use Rattle.opening.specs.Shapes.{units_of}
 use Rattle.finding.specs.Walks.{keys_after, branch_after, upto}
-use Rattle.finding.proofs.Walking.{step, room, branches, none_late, all_begin, no_branch, last_branch, one_left, some_branch}
+use Rattle.finding.proofs.Walking.{step, room, branches, none_late, all_begin, branch-begins, no_branch, last_branch, one_left, some_branch}
 use Rattle.finding.proofs.walk.+walk.Goals as goal
-use Rattle.finding.proofs.walk.+walk.Goals.{then-is_late-via-then-is_late, then-is_late-via-else-is_late+then-leave, in-Some+then-left-gt1, in-Some+else-left-gt1+then-is_all, in-Some+else-left-gt1+else-is_all, in_default}
+use Rattle.finding.proofs.walk.+walk.Goals.{then-is_late-via-then-is_late, then-is_late-via-else-is_late+then-leave, in-Some+else-is_passed_over+then-left-gt1, in-Some+else-is_passed_over+else-left-gt1+then-is_all, in-Some+else-is_passed_over+else-left-gt1+else-is_all, in_default}
 
 pub returns-then-is_late : goal.returns-then-is_late
 returns-then-is_late g t c u keys h =
@@ -26,15 +26,15 @@ loop-column-preserved g t c u keys h =
     let was = c.loop-column.invariant u keys h in
     let saw : Shape → List (List ℕ) → g.row.V.Denot → Type 0 = λ sh ks v. g.V.Visit.saw sh u ks v in
     elim c.match-next.branch [
-      | in-Some+then-left-gt1 w ↦
+      | in-Some+else-is_passed_over+then-left-gt1 w ↦
           let more = w.place.result in
           step (saw begun.counts.shape) (branch_after begun.counts begun.opened) column keys (some_branch begun column more.counts w.place.ensures.shape w.place.ensures.columns w.in-Some.opened (sym c.next.ensures ∙ w.in-Some.is)) w.visitor-is
           (subst₂ (λ sh p. saw sh so_far c.loop-column.visitor → saw sh (so_far ++ keys_after more.counts p) w.walk.new.visitor) w.place.ensures.shape w.place.ensures.opened (w.walk.ensures u so_far) was)
-      | in-Some+else-left-gt1+then-is_all w ↦
+      | in-Some+else-is_passed_over+else-left-gt1+then-is_all w ↦
           let fits = room begun column (subst (λ (sh : Shape). column < 2 ^ units_of sh) c.shape-shape.ensures (omega (arith, c.runs-column-end.ensures))) in
           step (saw begun.counts.shape) (branch_after begun.counts begun.opened) column keys (last_branch begun column w.in-Some.opened (sym c.next.ensures ∙ w.in-Some.is) (omega (arith, w.left.ensures)) c.shape-shape.result c.shape-shape.ensures true (sym w.if-is_all.true ∙ w.is_all.ensures))
           w.visitor-is (w.visit.ensures u so_far fits was)
-      | in-Some+else-left-gt1+else-is_all w ↦
+      | in-Some+else-is_passed_over+else-left-gt1+else-is_all w ↦
           step (saw begun.counts.shape) (branch_after begun.counts begun.opened) column keys (last_branch begun column w.in-Some.opened (sym c.next.ensures ∙ w.in-Some.is) (omega (arith, w.left.ensures)) c.shape-shape.result c.shape-shape.ensures false (sym w.if-is_all.false ∙ w.is_all.ensures))
           w.visitor-is (rw append-nil was)
       | in_default w ↦ step (saw begun.counts.shape) (branch_after begun.counts begun.opened) column keys (no_branch begun column (sym c.next.ensures ∙ w.in_default.is)) w.visitor-is (rw append-nil was)
@@ -45,3 +45,11 @@ returns g t c u keys h =
     let begun = c.args.begun.now in
     subst (λ ks. g.V.Visit.saw begun.counts.shape u (keys ++ ks) c.loop-column.visitor)
     (branches begun c.loop-column.column c.shape-shape.result c.shape-shape.ensures (omega (arith, c.runs-column-end.ensures))) (c.loop-column.invariant u keys h)
+
+pub loop-column-preserved-then-is_passed_over : goal.loop-column-preserved-then-is_passed_over
+loop-column-preserved-then-is_passed_over g t c u keys h =
+    let begun = c.args.begun.now in
+    let column : ℕ = c.loop-column.column in
+    step (λ ks v. g.V.Visit.saw begun.counts.shape u ks v) (branch_after begun.counts begun.opened) column keys refl refl
+    (c.if-is_passed_over.ensures tt u (keys ++ upto (branch_after begun.counts begun.opened) column) (branch_after begun.counts begun.opened column) (branch-begins begun column)
+    (c.loop-column.invariant u keys h))

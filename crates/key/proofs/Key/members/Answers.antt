@@ -1,4 +1,5 @@
-use Rattle.std.proofs.Common.{◌<◌, length, sym, ◌∙◌, arith}
+use Rattle.std.proofs.Common.{◌≡◌, ℕ, ◌^◌, ◌<◌, length, sym, ◌∙◌, arith}
+use Rattle.opening.specs.Shapes.{factors_of}
 use Rattle.key.proofs.Filling.{held_in, held_out, held_room, held_all}
 use Rattle.key.proofs.Key.members.Goals as goal
 use Rattle.key.proofs.Key.members.Goals.{then-word, else-word}

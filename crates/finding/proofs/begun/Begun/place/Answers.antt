@@ -1,10 +1,11 @@
-use Rattle.std.proofs.Common.{◌≡◌, ℕ, Bool, cond, List, [], ◌∷◌, ◌++◌, sym, ap, ◌∙◌, subst, subst₂, arith}
+use Rattle.std.proofs.Common.{◌≡◌, ℕ, ◌-◌, Bool, true, cond, List, [], ◌∷◌, ◌++◌, sym, ap, ◌∙◌, subst, subst₂, arith}
 use lib.Bits.{bit_or}
 use Rattle.opening.specs.declared.Shape.{Shape}
 use Rattle.figures.specs.Counted.{columns_in}
-use Rattle.finding.specs.Walks.{Within, Marks}
+use Rattle.finding.specs.Walks.{Within, Marks, leave_open}
 use Rattle.finding.proofs.Steps.{marks_more}
 use Rattle.finding.proofs.Columns.{next_within}
+use Rattle.finding.proofs.Trading.{leave_next}
 use Rattle.finding.proofs.Walking.{small, mark_is, room, one_left}
 use Rattle.finding.proofs.begun.Begun.place.Goals as goal
 
@@ -18,11 +19,14 @@ invariant_of-result c =
     let column = c.args.column in
     let grown : columns_in c.place.result ≡ columns_in counts ++ column ∷ [] =
     c.place.ensures.columns ∙ ap (λ (b : Bool). cond b (columns_in counts ++ column ∷ []) (columns_in counts)) (room begun column c.requires.word) in
-    let left = one_left begun column c.place.result c.place.ensures.shape grown in
+    let same = c.place.ensures.shape in
+    let left = one_left begun column c.place.result same grown in
     record {
       few = omega (arith, left, c.requires.few);
       marks = subst₂ (λ (bit : ℕ) (cs : List ℕ). Marks (bit_or begun.used bit) cs) (sym (mark_is column (small counts.shape column c.requires.word))) (sym grown)
           (marks_more begun.used column (columns_in counts) begun.marks);
-      within = subst (λ (sh : Shape). Within sh.w sh.s c.args.opened) (sym c.place.ensures.shape)
+      within = subst (λ (sh : Shape). Within sh.w sh.s c.args.opened) (sym same)
           (next_within counts.shape.w counts.shape.s counts.shape.n1 (columns_in counts) begun.opened column c.args.opened begun.within c.requires.next);
+      leaves = subst₂ (λ (sh : Shape) (cs : List ℕ). leave_open sh.w sh.s cs c.args.opened ≡ true) (sym same) (sym grown)
+          (leave_next counts.shape.w counts.shape.s counts.shape.n1 (columns_in counts) begun.opened column c.args.opened begun.leaves c.requires.next);
     }
