@@ -752,6 +752,7 @@ NAMES = {
 TOKEN = re.compile(r"[^\s(){}\[\]⟨⟩,;:.λ∷≡≢×→↔+*/%^<>≤≥=|&⌜⌝∥«»\"]+")
 # a comment to the end of its line, or a text
 SKIPPED = re.compile(r'(?:--(?=\s|-|$)|//)[^\n]*|"(?:\\.|[^"\\\n])*"')
+ALL = re.compile(r"(?<![\w'-])All(?![\w'-])")
 # the answers of a check are fields of a variable of these names: what follows the dot is Rattle's own spelling
 ANSWERS = ("c.", "w.")
 
@@ -791,6 +792,18 @@ def one_name_for_two(path, text):
     return "\n".join(l.replace("up_to", "length_up_to") if l.strip().startswith(marks) else l for l in lines)
 
 
+# std's recursive fact about each member goes by its own name: `All` is another word of std now
+def each_member(text):
+    if "AllByRecursion as All" not in text:
+        return text
+    text = text.replace("AllByRecursion as All", "AllByRecursion")
+    parts, at = [], 0
+    for skip in SKIPPED.finditer(text):
+        parts += [ALL.sub("AllByRecursion", text[at : skip.start()]), skip.group()]
+        at = skip.end()
+    return "".join(parts) + ALL.sub("AllByRecursion", text[at:])
+
+
 def main():
     for folder, dirs, files in os.walk("crates"):
         dirs[:] = sorted(d for d in dirs if d != "out")
@@ -802,7 +815,7 @@ def main():
                 old = f.read()
             new = respelled(old, not name.endswith(".edit"))
             if name.endswith((".rt", ".antt")):
-                new = one_name_for_two(path, new)
+                new = each_member(one_name_for_two(path, new))
             if new != old:
                 with open(path, "w", encoding="utf-8") as f:
                     f.write(new)
