@@ -1,7 +1,9 @@
 -- Orders made of orders, and what follows from the law of order alone. The lemmas stand in specs/ since the laws of impls
 -- cite them.
-use Rattle.std.specs.Prelude.{◌≡◌, ◌≢◌, refl}
-use Rattle.std.proofs.Common.{subst, rules}
+use Rattle.std.specs.Prelude.{◌≡◌, ◌≢◌, ℕ, ◌≤◌, Bool, true, false, cond, nat_lt, refl}
+use Rattle.std.proofs.Common.{subst}
+use Rattle.std.proofs.lemmas.Bool.{ltb-true, ltb-false}
+use Rattle.std.proofs.Math.Nat.{lt_irrefl, le_of_lt, le_trans, not-le_of_lt}
 use Rattle.ranking.specs.declared.verdict.Verdict.{Verdict}
 use Rattle.ranking.specs.declared.verdict.Verdict.TheVariants.{Better, Level, Worse}
 use Rattle.ranking.specs.Verdicts.{swapped, HoldsUp, first_decisive, fewer}
@@ -26,9 +28,47 @@ reversed o = record {
   transitive = λ x y z h k. o.transitive z y x k h;
 }
 
+-- ---- two numbers
+
+-- of two tests of which not both hold, what the verdict says: whether the first is less, and whether the second is
+abbrev verdict_by : Bool → Bool → Verdict
+verdict_by a b = cond a Better (cond b Worse Level)
+
+verdict_level : (a : Bool) → (a ≡ true → ⊥) → verdict_by a a ≡ Level
+verdict_level true h = absurd (h refl)
+verdict_level false h = refl
+
+verdict_swapped : (a b : Bool) → (a ≡ true → b ≡ true → ⊥) → verdict_by b a ≡ swapped (verdict_by a b)
+verdict_swapped true true h = absurd (h refl refl)
+verdict_swapped true false h = refl
+verdict_swapped false true h = refl
+verdict_swapped false false h = refl
+
+-- what holds up has a second that is not less, and the other way round
+held_up : (a b : Bool) → (a ≡ true → b ≡ true → ⊥) → HoldsUp (verdict_by a b) → b ≡ false
+held_up a false h up = refl
+held_up true true h up = absurd (h refl refl)
+held_up false true h up = absurd up
+
+holds_up : (a b : Bool) → (b ≡ true → ⊥) → HoldsUp (verdict_by a b)
+holds_up true b h = tt
+holds_up false true h = h refl
+holds_up false false h = tt
+
+not_both : (x y : ℕ) → nat_lt x y ≡ true → nat_lt y x ≡ true → ⊥
+not_both x y p q = not-le_of_lt (ltb-true x y p) (le_of_lt (ltb-true y x q))
+
+-- where x is not worse than y, it is not more
+at_most : (x y : ℕ) → HoldsUp (fewer x y) → x ≤ y
+at_most x y up = ltb-false y x (held_up (nat_lt x y) (nat_lt y x) (not_both x y) up)
+
 -- of two numbers the smaller is better
 pub fewer_order : Order fewer
-fewer_order = search rules
+fewer_order = record {
+  self_level = λ x. verdict_level (nat_lt x x) (λ t. lt_irrefl x (ltb-true x x t));
+  exchange = λ x y. verdict_swapped (nat_lt x y) (nat_lt y x) (not_both x y);
+  transitive = λ x y z h k. holds_up (nat_lt x z) (nat_lt z x) (λ t. not-le_of_lt (ltb-true z x t) (le_trans (at_most x y h) (at_most y z k)));
+}
 
 level_first : (a b : Verdict) → a ≡ Level → b ≡ Level → first_decisive a b ≡ Level
 level_first a b p q = rw (p, q)
