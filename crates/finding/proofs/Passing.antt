@@ -1,14 +1,13 @@
 -- Keys that fail no standing wish, and what is kept of them.
-use Rattle.std.proofs.Common.{◌≡◌, ℕ, ◌^◌, ◌<◌, ◌≤◌, Bool, true, false, cond, T, ◌↔◌, List, [], ◌∷◌, ◌++◌, length, take, Some, None, MatchBool, Option, sym, refl, ap, ◌∙◌, subst, subst₂, inl, inr, append-nil, lt_of_lt_of_le, arith, length-append, pow_mono}
+use Rattle.std.proofs.Common.{◌≡◌, ℕ, Bool, true, false, cond, T, ◌↔◌, List, [], ◌∷◌, ◌++◌, length, take, Some, None, MatchBool, Option, sym, refl, ap, ◌∙◌, subst, subst₂, inl, inr, append-nil, arith, length-append}
 use lib.Seq.{take-append_seam}
 use Rattle.std.specs.List.{AllByRecursion}
 use Rattle.std.proofs.ByRecursion.{all-has, All-weaker}
 use Rattle.std.proofs.lemmas.Bool.Decides.{when_true, when_false}
 use Rattle.theory.specs.declared.tally.Tally.{Tally}
 use Rattle.theory.specs.declared.wish.Wish.{Wish}
-use Rattle.theory.specs.declared.wish.Wish.TheVariants.{Clear, Apart, Fine, Word, Least}
 use Rattle.theory.specs.Tallies.{tally}
-use Rattle.theory.specs.Wishes.{Low, Formed, Meets}
+use Rattle.theory.specs.Wishes.{Formed, Meets}
 use Rattle.theory.proofs.Homes.{length_homes}
 use Rattle.opening.specs.declared.Shape.{Shape}
 use Rattle.opening.specs.Shapes.{layers_of, factors_of}
@@ -27,26 +26,10 @@ use Rattle.finding.specs.declared.judge.Kept.{Kept}
 use Rattle.finding.specs.Walks.{standard_keys}
 use Rattle.finding.specs.Listing.{In, Begins, StandardIn}
 use Rattle.finding.specs.Best.{by_tally, Finding, Wished}
+use Rattle.wishes.proofs.Turning.{formed_more}
 use Rattle.finding.specs.Leading.{PassesAll, KeepsPassing}
 use Rattle.finding.proofs.Standard.{listing_fact}
 use Rattle.finding.proofs.Judging.{leader_is_best, none_listed, keeps_on}
-
--- a wish of some factors is one of more
-formed_more : {m n : ℕ} → m ≤ n → (wish : Wish) → Formed m wish → Formed n wish
-formed_more {m} {n} h wish = go wish
-  where
-    wider : (e : ℕ) → e < 2 ^ m → e < 2 ^ n
-    wider e l = lt_of_lt_of_le l (pow_mono h)
-
-    low_more : (e : ℕ) → Low m e → Low n e
-    low_more e l = (wider e l.0, l.1, l.2)
-
-    go : (wish : Wish) → Formed m wish → Formed n wish
-    go (Clear e) k = (wider e k.0, k.1)
-    go (Apart e f) k = (k.0, low_more e k.1, low_more f k.2)
-    go (Fine e) k = low_more e k
-    go (Word e) k = (wider e k.0, k.1)
-    go (Least r) k = k
 
 -- no key passes that begins with columns that fail a wish
 begins_fails : (ws cs : List ℕ) (wishes : List Wish) → SomeFails ws cs wishes → (key : List ℕ) → Begins cs key → PassesAll ws wishes key → ⊥

@@ -1,7 +1,7 @@
--- Dictionary order, and what it is to list keys in it. Assumes nothing.
-use Rattle.std.specs.Prelude.{◌≡◌, ℕ, ◌<◌, ◌⊎◌, ◌↔◌, List, [], ◌∷◌, ◌++◌, refl}
-use Rattle.std.proofs.Common.{inl, inr, le_refl}
+-- What it is to list keys in dictionary order. Assumes nothing.
+use Rattle.std.specs.Prelude.{◌≡◌, ℕ, ◌⊎◌, ◌↔◌, List, [], ◌∷◌, ◌++◌}
 use Rattle.theory.specs.Keys.{Standard}
+pub use Rattle.exchange.specs.Dictionary.{Before}
 use Rattle.opening.specs.declared.Shape.{Shape}
 use Rattle.opening.specs.Shapes.{layers_of, homes_of}
 use Rattle.finding.specs.Walks.{standard_keys}
@@ -14,12 +14,6 @@ In x (y ∷ ys) = (x ≡ y) ⊎ In x ys
 -- the key begins with the columns
 abbrev pub Begins : List ℕ → List ℕ → Type 0
 Begins columns key = (cs : List ℕ) × (key ≡ columns ++ cs)
-
--- cs comes before ds in dictionary order: at the first factor where they differ it has the smaller word
-abbrev pub Before : List ℕ → List ℕ → Type 0
-Before [] ds = ⊥
-Before (c ∷ cs) [] = ⊥
-Before (c ∷ cs) (d ∷ ds) = (c < d) ⊎ ((c ≡ d) × Before cs ds)
 
 -- each key comes before all that stand behind it
 abbrev pub Rising : List (List ℕ) → Type 0
@@ -38,7 +32,3 @@ StandardIn shape key = Standard (layers_of shape) (homes_of shape) key
 -- the keys of a walk are the standard keys of its shape
 abbrev pub ListingFact : Type 0
 ListingFact = (shape : Shape) → Listed (StandardIn shape) (standard_keys shape)
-
--- at the third factor, where they differ, the first key has the smaller word
-example_before : Before (1 ∷ 4 ∷ 5 ∷ 6 ∷ []) (1 ∷ 4 ∷ 6 ∷ 5 ∷ [])
-example_before = inr (refl, inr (refl, inl (le_refl 6)))
