@@ -13,7 +13,7 @@ use crate::desk::Desk;
 use lines::command::read_command;
 use lines::opening::read_opening;
 use lines::ranking::{RankingName, read_ranking};
-use opening::Shape;
+use opening::{Numbers, Shape};
 use planner::planner::Planner;
 use ranking::aberration::Aberration;
 use sheet::fault::{LineFault, SheetFault};
@@ -41,7 +41,13 @@ fn opened(line: Line<'_>) -> Result<(Answer, Stage), LineFault>
 {
     let number = line.number();
     let opening = read_opening(line)?;
-    match Shape::new(opening.w, opening.s, opening.n1, opening.n2) {
+    let numbers = Numbers {
+        w: opening.w,
+        s: opening.s,
+        n1: opening.n1,
+        n2: opening.n2,
+    };
+    match Shape::try_from(numbers) {
         Ok(shape) => Ok((Answer::Nothing, Stage::Ranking(shape))),
         Err(refusal) => Ok((Answer::Refused(refusal, number), Stage::Over)),
     }

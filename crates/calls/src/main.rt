@@ -2,13 +2,14 @@
 
 #![tactic(auto)]
 
+use planner::effect::Effect;
 use planner::planner::Planner;
 use ranking::aberration::Aberration;
 use std::io;
 use theory::refusal::Refusal;
 
 /// Prints an answer or the refusal.
-fn tell(rt: &HostRuntime, call: &str, answer: Result<u8, Refusal>) -> io::Result<()> {
+fn tell(rt: &impl Print, call: &str, answer: Result<u8, Refusal>) -> io::Result<()> {
     match answer {
         Ok(number) => println!(rt; "{call}: {number}"),
         Err(refusal) => {
@@ -20,50 +21,40 @@ fn tell(rt: &HostRuntime, call: &str, answer: Result<u8, Refusal>) -> io::Result
 
 /// Opens a trial and tells the answer.
 fn open(
-    rt: &HostRuntime,
+    rt: &impl Print,
     place: &mut Planner<Aberration>,
     numbers: (u16, u16, u16, u16),
 ) -> io::Result<()> {
-    let (w, s, n1, n2) = numbers;
-    let answer = match place.open(w, s, n1, n2, Aberration) {
-        Ok(()) => Ok(0),
-        Err(refusal) => Err(refusal),
-    };
-    tell(rt, "open", answer)
+    let answer = place.open(numbers.into(), Aberration);
+    tell(rt, "open", answer.map(|()| 0))
 }
 
 /// Adds a wish and tells the answer.
 fn add(
-    rt: &HostRuntime,
+    rt: &impl Print,
     place: &mut Planner<Aberration>,
     kind: u16,
     e: u16,
     f: u16,
 ) -> io::Result<()> {
-    let answer = match place.add(kind, e, f) {
-        Ok(effect) => Ok(effect.number()),
-        Err(refusal) => Err(refusal),
-    };
-    tell(rt, "add", answer)
+    let answer = place.add(kind, e, f);
+    tell(rt, "add", answer.map(Effect::number))
 }
 
 /// Strikes a wish and tells the answer.
 fn strike(
-    rt: &HostRuntime,
+    rt: &impl Print,
     place: &mut Planner<Aberration>,
     kind: u16,
     e: u16,
     f: u16,
 ) -> io::Result<()> {
-    let answer = match place.strike(kind, e, f) {
-        Ok(effect) => Ok(effect.number()),
-        Err(refusal) => Err(refusal),
-    };
-    tell(rt, "strike", answer)
+    let answer = place.strike(kind, e, f);
+    tell(rt, "strike", answer.map(Effect::number))
 }
 
 /// Finds a plan and tells its columns.
-fn find(rt: &HostRuntime, place: &mut Planner<Aberration>) -> io::Result<()> {
+fn find(rt: &impl Print, place: &mut Planner<Aberration>) -> io::Result<()> {
     match place.find() {
         Ok(key) => {
             print!(rt; "find: 0, the plan is")?;
@@ -77,7 +68,7 @@ fn find(rt: &HostRuntime, place: &mut Planner<Aberration>) -> io::Result<()> {
 }
 
 /// Openings at the limits.
-fn openings(rt: &HostRuntime, place: &mut Planner<Aberration>) -> io::Result<()> {
+fn openings(rt: &impl Print, place: &mut Planner<Aberration>) -> io::Result<()> {
     find(rt, place)?;
     open(rt, place, (4, 2, 1, 5))?;
     open(rt, place, (2, 1, 1, 1))?;
@@ -88,7 +79,7 @@ fn openings(rt: &HostRuntime, place: &mut Planner<Aberration>) -> io::Result<()>
 }
 
 /// Wishes that move the plan, until none is left.
-fn moves(rt: &HostRuntime, place: &mut Planner<Aberration>) -> io::Result<()> {
+fn moves(rt: &impl Print, place: &mut Planner<Aberration>) -> io::Result<()> {
     open(rt, place, (2, 1, 1, 3))?;
     find(rt, place)?;
     add(rt, place, 1, 3, 0)?;
@@ -103,7 +94,7 @@ fn moves(rt: &HostRuntime, place: &mut Planner<Aberration>) -> io::Result<()> {
 }
 
 /// Twelve wishes stand, and no thirteenth.
-fn many(rt: &HostRuntime, place: &mut Planner<Aberration>) -> io::Result<()> {
+fn many(rt: &impl Print, place: &mut Planner<Aberration>) -> io::Result<()> {
     open(rt, place, (2, 1, 1, 3))?;
     for r in 3..=10 {
         add(rt, place, 5, r, 0)?;

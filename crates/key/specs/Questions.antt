@@ -3,12 +3,13 @@ use Rattle.std.specs.Prelude.{◌≡◌, ℕ, ◌^◌, Bool, cond, List, [], ◌
 use Rattle.theory.specs.declared.refusal.Refusal.{Refusal}
 use Rattle.theory.specs.declared.refusal.Refusal.TheVariants.{NoRun, NoEffect, ShortBuffer}
 use Rattle.theory.specs.declared.sign.Sign.{Sign}
-use Rattle.theory.specs.Words.{alias, stratum, sign}
+use Rattle.theory.specs.declared.stratum.Stratum.{Stratum}
+use Rattle.theory.specs.Words.{alias, sign}
 use Rattle.theory.specs.Keys.{Sound}
 use Rattle.theory.specs.Signs.{Halves, PlotHalves}
 use Rattle.opening.specs.declared.Shape.{Shape}
 use Rattle.key.specs.declared.Key.{Key}
-use Rattle.opening.specs.Shapes.{layers_of, homes_of, units_of, factors_of, size_of_chain}
+use Rattle.opening.specs.Shapes.{layers_of, homes_of, units_of, factors_of, size_of_chain, stratum_in}
 use Rattle.key.specs.Layouts.{signs_text, row_text, plot_text, layout_text}
 
 -- the columns of a key, in factor order
@@ -50,8 +51,8 @@ filled (Err why) content out = out
 -- ---- questions
 
 -- the unit word of an effect and its stratum
-abbrev pub alias_answer : Key → ℕ → Result (ℕ × ℕ) Refusal
-alias_answer key effect = granted (effect_check key effect ∷ []) (word_of key effect, stratum (layers_of key.shape) (word_of key effect))
+abbrev pub alias_answer : Key → ℕ → Result (ℕ × Stratum) Refusal
+alias_answer key effect = granted (effect_check key effect ∷ []) (word_of key effect, stratum_in key.shape (word_of key effect))
 
 -- the sign of an effect in a run
 abbrev pub sign_answer : Key → ℕ → ℕ → Result Sign Refusal

@@ -9,6 +9,7 @@ use figures::alias::product;
 use opening::Shape;
 use theory::refusal::Refusal;
 use theory::sign::Sign;
+use theory::stratum::Stratum;
 
 /// The sign in a run of every effect with this alias.
 pub(super) fn sign_of(word: u8, run: u8) -> Sign
@@ -43,8 +44,8 @@ impl Key {
         product(self.columns(), effect)
     }
 
-    /// The unit word of an effect, and its stratum: 0 the mean, 1 whole plots, 2 subplots.
-    pub fn alias(&self, effect: u16) -> Result<(u8, u8), Refusal>
+    /// The unit word of an effect, and its stratum.
+    pub fn alias(&self, effect: u16) -> Result<(u8, Stratum), Refusal>
         ensures { result ≡ alias_answer self.now effect }
     {
         if !self.shape.has_effect(effect) {

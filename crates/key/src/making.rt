@@ -3,7 +3,7 @@
 ghost use Rattle.std.specs.Prelude.{◌≡◌, ℕ, ◌^◌, ◌<◌, ◌≤◌, true, false, ◌||◌, length, take, Decides, bit_xor, slice_index_or};
 ghost use Rattle.theory.specs.Words.{alias};
 ghost use Rattle.theory.specs.Keys.{Words, Own, Apart, Full, Sound};
-ghost use Rattle.opening.specs.Shapes.{layers_of, homes_of, units_of};
+ghost use Rattle.opening.specs.Shapes.{layers_of, homes_of, units_of, factors_of};
 ghost use Rattle.key.specs.Questions.{Making};
 
 use super::Key;
@@ -11,10 +11,11 @@ use opening::Shape;
 
 /// Whether each column is a unit word in the layer of its factor.
 fn placed(shape: Shape, columns: &[u8]) -> bool
+    requires { length columns.now ≡ factors_of shape }
     ensures { Decides result (Words (layers_of shape) columns.now × Own (layers_of shape) (homes_of shape) columns.now) }
 {
     for (i, column) in columns.iter().enumerate() {
-        if !shape.has_word(*column) || shape.stratum(*column) != shape.home(i) {
+        if !shape.has_word(*column) || shape.home(i) != Some(shape.stratum(*column)) {
             return false;
         }
     }

@@ -1,8 +1,10 @@
 -- Shapes: which numbers open one, and its layers and factors. Assumes nothing.
-use Rattle.std.specs.Prelude.{◌≡◌, ℕ, ◌+◌, ◌-◌, ◌^◌, Bool, cond, ◌&&◌, List, [], ◌∷◌, Some, None, Option, Result, MatchResult, nat_le, refl}
+use Rattle.std.specs.Prelude.{◌≡◌, ℕ, ◌+◌, ◌-◌, ◌^◌, Bool, cond, ◌&&◌, List, [], ◌∷◌, Some, None, Option, Result, MatchResult, nat_le, option_map, slice_get, refl}
 use Rattle.theory.specs.declared.refusal.Refusal.{Refusal}
 use Rattle.theory.specs.declared.refusal.Refusal.TheVariants.{WholePlotUnits, SubplotUnits, WholePlotFactors, SubplotFactors, FactorCount}
-use Rattle.theory.specs.Words.{total}
+use Rattle.theory.specs.declared.stratum.Stratum.{Stratum}
+use Rattle.theory.specs.Words.{total, stratum}
+use Rattle.theory.specs.Strata.{stratum_named}
 use Rattle.theory.specs.Keys.{homes}
 use Rattle.opening.specs.declared.Shape.{Shape}
 
@@ -25,6 +27,14 @@ factors_of shape = shape.n1 + shape.n2
 -- how many effects each chain of a sound key has
 abbrev pub size_of_chain : Shape → ℕ
 size_of_chain shape = 2 ^ (factors_of shape - units_of shape)
+
+-- the stratum of a word
+abbrev pub stratum_in : Shape → ℕ → Stratum
+stratum_in shape word = stratum_named (stratum (layers_of shape) word)
+
+-- the layer of a factor, counted from 0, by name; none where there is no such factor
+abbrev pub home_of : Shape → ℕ → Option Stratum
+home_of shape factor = option_map stratum_named (slice_get (homes_of shape) factor)
 
 -- x is from a to b
 abbrev pub within : ℕ → ℕ → ℕ → Bool

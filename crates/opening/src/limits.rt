@@ -1,30 +1,35 @@
 //! Opens a shape, and reads its sums.
 
-ghost use Rattle.std.specs.Prelude.{◌≡◌, ℕ, ◌^◌, nat_lt, slice_index};
+ghost use Rattle.std.specs.Prelude.{◌≡◌, ℕ, ◌^◌, nat_lt};
 ghost use Rattle.theory.specs.Words.{stratum};
-ghost use Rattle.opening.specs.Shapes.{Opening, layers_of, homes_of, units_of, factors_of, size_of_chain};
+ghost use Rattle.theory.specs.Strata.{stratum_number};
+ghost use Rattle.opening.specs.Shapes.{Opening, layers_of, units_of, factors_of, size_of_chain, stratum_in, home_of};
 
-use super::Shape;
+use super::{Numbers, Shape};
 use theory::refusal::Refusal;
+use theory::stratum::Stratum;
 
-impl Shape {
+impl TryFrom<Numbers> for Shape {
+    type Error = Refusal;
+
+    ghost try_from_gives = { λ numbers r. Opening numbers.w numbers.s numbers.n1 numbers.n2 r };
+
     /// The shape with these numbers, or the refusal of the first check that they fail.
-    pub fn new(w: u16, s: u16, n1: u16, n2: u16) -> Result<Shape, Refusal>
-        ensures { Opening w s n1 n2 result }
-    {
-        if w < 1 || w > 4 {
+    fn try_from(numbers: Numbers) -> Result<Shape, Refusal> {
+        let Numbers { w, s, n1, n2 } = numbers;
+        if !(1..=4).contains(&w) {
             return Err(Refusal::WholePlotUnits);
         }
-        if s < 1 || s > 4 || w + s > 5 {
+        if !(1..=4).contains(&s) || w + s > 5 {
             return Err(Refusal::SubplotUnits);
         }
-        if n1 < 1 || n1 > 9 {
+        if !(1..=9).contains(&n1) {
             return Err(Refusal::WholePlotFactors);
         }
-        if n2 < 1 || n2 > 9 {
+        if !(1..=9).contains(&n2) {
             return Err(Refusal::SubplotFactors);
         }
-        if n1 + n2 < w + s || n1 + n2 > w + s + 5 {
+        if !(w + s..=w + s + 5).contains(&(n1 + n2)) {
             return Err(Refusal::FactorCount);
         }
         Ok(Shape {
@@ -34,7 +39,9 @@ impl Shape {
             n2: n2 as u8,
         })
     }
+}
 
+impl Shape {
     /// How many unit factors there are.
     pub fn units(self) -> u8
         ensures { result ≡ units_of self }
@@ -98,29 +105,30 @@ impl Shape {
         effect < self.effects()
     }
 
-    /// The stratum of a word: 0 the mean, 1 whole plots, 2 subplots.
-    pub fn stratum(self, word: u8) -> u8
-        ensures { result ≡ stratum (layers_of self) word }
+    /// The stratum of a word.
+    pub fn stratum(self, word: u8) -> Stratum
+        ensures name { result ≡ stratum_in self word }
+        ensures number { stratum_number result ≡ stratum (layers_of self) word }
     {
         if word == 0 {
-            0
+            Stratum::Mean
         } else if word >> self.w == 0 {
-            1
+            Stratum::WholePlots
         } else {
-            2
+            Stratum::Subplots
         }
     }
 
-    /// The layer of a factor: 1 whole plots, 2 subplots; 0 where there is no such factor.
-    pub fn home(self, factor: usize) -> u8
-        ensures { result ≡ slice_index (homes_of self) factor }
+    /// The layer of a factor, counted from 0; none where there is no such factor.
+    pub fn home(self, factor: usize) -> Option<Stratum>
+        ensures { result ≡ home_of self factor }
     {
         if factor < usize::from(self.n1) {
-            1
+            Some(Stratum::WholePlots)
         } else if factor < usize::from(self.factors()) {
-            2
+            Some(Stratum::Subplots)
         } else {
-            0
+            None
         }
     }
 }

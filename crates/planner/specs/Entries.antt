@@ -2,6 +2,7 @@
 use Rattle.std.specs.Prelude.{ℕ, List, Option, Result}
 use Rattle.theory.specs.declared.refusal.Refusal.{Refusal}
 use Rattle.theory.specs.declared.sign.Sign.{Sign}
+use Rattle.theory.specs.declared.stratum.Stratum.{Stratum}
 use Rattle.theory.specs.declared.tally.Tally.{Tally}
 use Rattle.key.specs.declared.Key.{Key}
 use Rattle.planner.specs.declared.effect.Effect.{Effect}
@@ -10,7 +11,7 @@ use Rattle.planner.specs.declared.effect.Effect.{Effect}
 pub data Asked : Type 0 where
   key : (out : List ℕ) → Result ℕ Refusal → (out' : List ℕ) → Asked
   sign : (e u : ℕ) → Result Sign Refusal → Asked
-  alias : (e : ℕ) → Result (ℕ × ℕ) Refusal → Asked
+  alias : (e : ℕ) → Result (ℕ × Stratum) Refusal → Asked
   chain : (e : ℕ) (out : List ℕ) → Result ℕ Refusal → (out' : List ℕ) → Asked
   tally : Result Tally Refusal → Asked
   resolution : Result (Option ℕ) Refusal → Asked

@@ -5,20 +5,61 @@
 
 #![tactic(auto)]
 
+use opening::Numbers;
 use planner::planner::Planner;
 use ranking::aberration::Aberration;
 use std::io;
 
+/// The numbers of an opening, and the published counts of words of length 3 to 6.
+type Design = ((u16, u16, u16, u16), (u16, u16, u16, u16));
+
+const DESIGNS: [Design; 35] = [
+    // 8 whole plots of 2 runs
+    ((3, 1, 1, 4), (0, 0, 1, 0)),
+    ((3, 1, 1, 5), (1, 1, 1, 0)),
+    ((3, 1, 1, 6), (2, 3, 2, 0)),
+    ((3, 1, 1, 7), (3, 7, 4, 0)),
+    ((3, 1, 1, 8), (4, 14, 8, 0)),
+    ((3, 1, 2, 3), (0, 1, 0, 0)),
+    ((3, 1, 2, 4), (0, 3, 0, 0)),
+    ((3, 1, 2, 5), (2, 3, 2, 0)),
+    ((3, 1, 2, 6), (4, 5, 4, 2)),
+    ((3, 1, 2, 7), (6, 10, 8, 4)),
+    // 8 whole plots of 4 runs
+    ((3, 2, 1, 5), (0, 0, 0, 1)),
+    ((3, 2, 1, 6), (0, 1, 2, 0)),
+    ((3, 2, 1, 7), (0, 3, 4, 0)),
+    ((3, 2, 1, 8), (0, 6, 8, 0)),
+    ((3, 2, 1, 9), (0, 10, 16, 0)),
+    ((3, 2, 2, 4), (0, 0, 0, 1)),
+    ((3, 2, 2, 5), (0, 1, 2, 0)),
+    ((3, 2, 2, 6), (0, 3, 4, 0)),
+    ((3, 2, 2, 7), (0, 6, 8, 0)),
+    ((3, 2, 2, 8), (0, 10, 16, 0)),
+    // 16 whole plots of 2 runs
+    ((4, 1, 1, 5), (0, 0, 0, 1)),
+    ((4, 1, 1, 6), (0, 1, 2, 0)),
+    ((4, 1, 1, 7), (0, 3, 4, 0)),
+    ((4, 1, 1, 8), (0, 6, 8, 0)),
+    ((4, 1, 1, 9), (0, 10, 16, 0)),
+    ((4, 1, 2, 4), (0, 0, 0, 1)),
+    ((4, 1, 2, 5), (0, 1, 2, 0)),
+    ((4, 1, 2, 6), (0, 3, 4, 0)),
+    ((4, 1, 2, 7), (0, 6, 8, 0)),
+    ((4, 1, 2, 8), (0, 10, 16, 0)),
+    ((4, 1, 3, 3), (0, 0, 1, 0)),
+    ((4, 1, 3, 4), (0, 1, 2, 0)),
+    ((4, 1, 3, 5), (0, 3, 4, 0)),
+    ((4, 1, 3, 6), (0, 7, 7, 0)),
+    ((4, 1, 3, 7), (0, 16, 0, 12)),
+];
+
 /// Finds a plan and prints its counts beside the published ones.
-fn show(
-    rt: &HostRuntime,
-    numbers: (u16, u16, u16, u16),
-    published: (u16, u16, u16, u16),
-) -> io::Result<()> {
-    let (w, s, n1, n2) = numbers;
+fn show(rt: &impl Print, design: Design) -> io::Result<()> {
+    let ((w, s, n1, n2), published) = design;
     let (p3, p4, p5, p6) = published;
     let mut place = Planner::new(Aberration);
-    let opened = place.open(w, s, n1, n2, Aberration).is_ok();
+    let opened = place.open(Numbers { w, s, n1, n2 }, Aberration).is_ok();
     let _ = place.find();
     match place.tally() {
         Ok(tally) if opened => {
@@ -33,73 +74,9 @@ fn show(
     }
 }
 
-/// Designs of 8 whole plots of 2 runs.
-fn eight_by_two(rt: &HostRuntime) -> io::Result<()> {
-    let designs = [
-        ((3, 1, 1, 4), (0, 0, 1, 0)),
-        ((3, 1, 1, 5), (1, 1, 1, 0)),
-        ((3, 1, 1, 6), (2, 3, 2, 0)),
-        ((3, 1, 1, 7), (3, 7, 4, 0)),
-        ((3, 1, 1, 8), (4, 14, 8, 0)),
-        ((3, 1, 2, 3), (0, 1, 0, 0)),
-        ((3, 1, 2, 4), (0, 3, 0, 0)),
-        ((3, 1, 2, 5), (2, 3, 2, 0)),
-        ((3, 1, 2, 6), (4, 5, 4, 2)),
-        ((3, 1, 2, 7), (6, 10, 8, 4)),
-    ];
-    for (numbers, printed) in designs {
-        show(rt, numbers, printed)?;
-    }
-    Ok(())
-}
-
-/// Designs of 8 whole plots of 4 runs.
-fn eight_by_four(rt: &HostRuntime) -> io::Result<()> {
-    let designs = [
-        ((3, 2, 1, 5), (0, 0, 0, 1)),
-        ((3, 2, 1, 6), (0, 1, 2, 0)),
-        ((3, 2, 1, 7), (0, 3, 4, 0)),
-        ((3, 2, 1, 8), (0, 6, 8, 0)),
-        ((3, 2, 1, 9), (0, 10, 16, 0)),
-        ((3, 2, 2, 4), (0, 0, 0, 1)),
-        ((3, 2, 2, 5), (0, 1, 2, 0)),
-        ((3, 2, 2, 6), (0, 3, 4, 0)),
-        ((3, 2, 2, 7), (0, 6, 8, 0)),
-        ((3, 2, 2, 8), (0, 10, 16, 0)),
-    ];
-    for (numbers, printed) in designs {
-        show(rt, numbers, printed)?;
-    }
-    Ok(())
-}
-
-/// Designs of 16 whole plots of 2 runs.
-fn sixteen_by_two(rt: &HostRuntime) -> io::Result<()> {
-    let designs = [
-        ((4, 1, 1, 5), (0, 0, 0, 1)),
-        ((4, 1, 1, 6), (0, 1, 2, 0)),
-        ((4, 1, 1, 7), (0, 3, 4, 0)),
-        ((4, 1, 1, 8), (0, 6, 8, 0)),
-        ((4, 1, 1, 9), (0, 10, 16, 0)),
-        ((4, 1, 2, 4), (0, 0, 0, 1)),
-        ((4, 1, 2, 5), (0, 1, 2, 0)),
-        ((4, 1, 2, 6), (0, 3, 4, 0)),
-        ((4, 1, 2, 7), (0, 6, 8, 0)),
-        ((4, 1, 2, 8), (0, 10, 16, 0)),
-        ((4, 1, 3, 3), (0, 0, 1, 0)),
-        ((4, 1, 3, 4), (0, 1, 2, 0)),
-        ((4, 1, 3, 5), (0, 3, 4, 0)),
-        ((4, 1, 3, 6), (0, 7, 7, 0)),
-        ((4, 1, 3, 7), (0, 16, 0, 12)),
-    ];
-    for (numbers, printed) in designs {
-        show(rt, numbers, printed)?;
-    }
-    Ok(())
-}
-
 fn main(rt: HostRuntime) -> io::Result<()> {
-    eight_by_two(&rt)?;
-    eight_by_four(&rt)?;
-    sixteen_by_two(&rt)
+    for design in DESIGNS {
+        show(&rt, design)?;
+    }
+    Ok(())
 }

@@ -4,6 +4,7 @@
 
 #![tactic(auto)]
 
+use opening::Numbers;
 use planner::planner::Planner;
 use ranking::aberration::Aberration;
 use ranking::penalty::Penalty;
@@ -23,13 +24,13 @@ fn measure<R: Ranking + Copy>(
     rt: &HostRuntime,
     name: &str,
     ranking: R,
-    numbers: (u16, u16, u16, u16),
+    numbers: Numbers,
 ) -> io::Result<()> {
-    let (w, s, n1, n2) = numbers;
     let mut place = Planner::new(ranking);
-    if let Err(_) = place.open(w, s, n1, n2, ranking) {
+    if place.open(numbers, ranking).is_err() {
         return Ok(());
     }
+    let Numbers { w, s, n1, n2 } = numbers;
     let without = timed(rt, &mut place)?;
     let _ = place.add(5, 4, 0);
     let with = timed(rt, &mut place)?;
@@ -41,8 +42,8 @@ fn measure<R: Ranking + Copy>(
 // Two rankings, since with one alone the compiler leaves out every figure that it does not read.
 fn main(rt: HostRuntime) -> io::Result<()> {
     for numbers in [(2, 3, 1, 9), (3, 2, 1, 9), (3, 2, 2, 8)] {
-        measure(&rt, "aberration", Aberration, numbers)?;
-        measure(&rt, "penalty", Penalty, numbers)?;
+        measure(&rt, "aberration", Aberration, numbers.into())?;
+        measure(&rt, "penalty", Penalty, numbers.into())?;
     }
     Ok(())
 }

@@ -1,5 +1,6 @@
 pub mod Refusals
 pub mod Words
+pub mod Strata
 pub mod Keys
 pub mod Plots
 pub mod Chains

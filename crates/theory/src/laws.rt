@@ -1,4 +1,4 @@
-//! The laws of keys. Each function's contract is a law; calling it answers 0.
+//! The laws of keys. Each function's contract is a law; calling it does nothing.
 
 ghost use Rattle.theory.specs.Alikes.{AlikeFact};
 ghost use Rattle.theory.specs.Laws.{ChainFact, DefiningFact, ResolutionFact, SignFact, EvenFact};
@@ -8,78 +8,58 @@ ghost use Rattle.theory.specs.Twins.{TwinFact};
 ghost use Rattle.theory.specs.Wishes.{FormedFact, FrontFact};
 
 /// Every sound key has exactly one standard twin.
-pub fn one_standard_twin() -> u8
+pub fn one_standard_twin()
     ensures { TwinFact }
-{
-    0
-}
+{}
 
 /// Twins have the same tally, resolution and chains, and meet the same wishes.
-pub fn twins_are_alike() -> u8
+pub fn twins_are_alike()
     ensures { AlikeFact }
-{
-    0
-}
+{}
 
 /// For two layers, sound and standard mean what they say of W's and S's, word for word.
-pub fn two_layers() -> u8
+pub fn two_layers()
     ensures { TwoLayers }
-{
-    0
-}
+{}
 
 /// Each effect goes to its unit word, and each unit word leads back to its chain: exactly the
 /// effects with that alias, in rising number, 2^(n - k) of them.
-pub fn chains_are_whole() -> u8
+pub fn chains_are_whole()
     ensures { ChainFact }
-{
-    0
-}
+{}
 
 /// The chain of the mean is 0 and the defining words, so there are 2^(n - k) - 1 of those, and the
 /// resolution is the least length of one.
-pub fn mean_and_defining_words() -> u8
+pub fn mean_and_defining_words()
     ensures words { DefiningFact }
     ensures shortest { ResolutionFact }
-{
-    0
-}
+{}
 
 /// Two effects are alike in every run exactly when one chain holds both, otherwise in exactly half
 /// of the runs; and the like within each plot.
-pub fn signs_agree_or_halve() -> u8
+pub fn signs_agree_or_halve()
     ensures { SignFact }
-{
-    0
-}
+{}
 
 /// How the counts of effects by length and alias grow with one column more, and how the counts of
 /// interactions are read off them word by word.
-pub fn counts_grow_by_columns() -> u8
+pub fn counts_grow_by_columns()
     ensures columns { ColumnFact }
     ensures words { WordsFact }
-{
-    0
-}
+{}
 
 /// The test of whether a wish is formed tells just that.
-pub fn formed_is_tested() -> u8
+pub fn formed_is_tested()
     ensures { FormedFact }
-{
-    0
-}
+{}
 
 /// A wish of the first factors that their columns do not meet is met by no key that begins with
 /// these.
-pub fn first_columns_decide() -> u8
+pub fn first_columns_decide()
     ensures { FrontFact }
-{
-    0
-}
+{}
 
 /// With one subplot unit factor, every defining word has an even number of subplot factors.
-pub fn subplot_factors_are_even() -> u8
+pub fn subplot_factors_are_even()
     ensures { EvenFact }
-{
-    0
-}
+{}

@@ -5,5 +5,6 @@
 pub mod laws;
 pub mod refusal;
 pub mod sign;
+pub mod stratum;
 pub mod tally;
 pub mod wish;

@@ -4,40 +4,40 @@ ghost use Rattle.std.specs.Prelude.{◌≡◌};
 ghost use Rattle.theory.specs.Refusals.{refusal_number};
 
 /// The reasons for a refusal, in the order of their numbers.
-#[derive(Clone, Copy, PartialEq)]
+#[derive(Clone, Copy, Debug, PartialEq, Eq, Hash)]
 pub enum Refusal {
     /// There are not 1 to 4 whole-plot unit factors.
-    WholePlotUnits,
+    WholePlotUnits = 1,
     /// There are not 1 to 4 subplot unit factors, or more than 5 unit factors in all.
-    SubplotUnits,
+    SubplotUnits = 2,
     /// There are not 1 to 9 whole-plot factors.
-    WholePlotFactors,
+    WholePlotFactors = 3,
     /// There are not 1 to 9 subplot factors.
-    SubplotFactors,
+    SubplotFactors = 4,
     /// There are fewer factors than unit factors, or over five more.
-    FactorCount,
+    FactorCount = 5,
     /// The weight is not a fraction a/b with b from 1 to 1000 and a from 0 to b.
-    WeightLimits,
+    WeightLimits = 6,
     /// There is no such kind of wish.
-    WishKind,
+    WishKind = 11,
     /// The numbers of the wish are not as its kind asks.
-    WishForm,
+    WishForm = 12,
     /// The wish stands already.
-    WishStands,
+    WishStands = 13,
     /// Twelve wishes stand.
-    WishesFull,
+    WishesFull = 14,
     /// The wish does not stand.
-    WishAbsent,
+    WishAbsent = 15,
     /// No sound key meets what is asked.
-    NoKey,
+    NoKey = 21,
     /// No plan stands.
-    NoPlan,
+    NoPlan = 22,
     /// There is no such run.
-    NoRun,
+    NoRun = 23,
     /// There is no such effect.
-    NoEffect,
+    NoEffect = 24,
     /// The buffer is too short for the answer.
-    ShortBuffer,
+    ShortBuffer = 25,
 }
 
 impl Refusal {
@@ -45,23 +45,6 @@ impl Refusal {
     pub fn number(self) -> u8
         ensures { result ≡ refusal_number self }
     {
-        match self {
-            Refusal::WholePlotUnits => 1,
-            Refusal::SubplotUnits => 2,
-            Refusal::WholePlotFactors => 3,
-            Refusal::SubplotFactors => 4,
-            Refusal::FactorCount => 5,
-            Refusal::WeightLimits => 6,
-            Refusal::WishKind => 11,
-            Refusal::WishForm => 12,
-            Refusal::WishStands => 13,
-            Refusal::WishesFull => 14,
-            Refusal::WishAbsent => 15,
-            Refusal::NoKey => 21,
-            Refusal::NoPlan => 22,
-            Refusal::NoRun => 23,
-            Refusal::NoEffect => 24,
-            Refusal::ShortBuffer => 25,
-        }
+        self as u8
     }
 }

@@ -1,7 +1,7 @@
 //! The sign of an effect in a run.
 
 /// One of the two levels at which a run sets an effect.
-#[derive(Clone, Copy, PartialEq)]
+#[derive(Clone, Copy, Debug, PartialEq, Eq, Hash)]
 pub enum Sign {
     Plus,
     Minus,

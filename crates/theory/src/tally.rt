@@ -5,7 +5,7 @@
 /// `a3` to `a10` count its defining words by length. `m1` and `m2` count the interactions of
 /// stratum 1 and 2 whose chain holds no main effect. `q1` and `q2` add, over those chains, the
 /// square of the number of interactions in the chain.
-#[derive(Clone, Copy, PartialEq)]
+#[derive(Clone, Copy, Debug, Default, PartialEq, Eq, Hash)]
 pub struct Tally {
     pub a3: u16,
     pub a4: u16,

@@ -1,7 +1,7 @@
 //! What the crew may ask of a plan.
 
 /// A wish, by its kind. Effects are numbers whose bits are factors.
-#[derive(Clone, Copy, PartialEq)]
+#[derive(Clone, Copy, Debug, PartialEq, Eq, Hash)]
 pub enum Wish {
     /// This interaction is clear: its chain holds no main effect and no other interaction.
     Clear(u16),

@@ -8,6 +8,7 @@ ghost use Rattle.wishes.specs.Tests.{Fails, Passes, MetByNone};
 
 use crate::forming::is_formed;
 use figures::counts::Counts;
+use theory::stratum::Stratum;
 use theory::wish::Wish;
 
 /// Whether the columns do not meet the wish, which is one of their factors.
@@ -21,7 +22,7 @@ fn is_unmet(counts: &Counts, wish: Wish) -> bool
             counts.count(word, 1) > 0 || counts.count(word, 2) > 1
         }
         Wish::Apart(e, f) => counts.alias(e) == counts.alias(f),
-        Wish::Fine(e) => counts.shape().stratum(counts.alias(e)) != 2,
+        Wish::Fine(e) => counts.shape().stratum(counts.alias(e)) != Stratum::Subplots,
         Wish::Word(e) => counts.alias(e) != 0,
         Wish::Least(r) => match counts.resolution() {
             Some(length) => u16::from(length) < r,

@@ -8,6 +8,7 @@ use super::Planner;
 use ranking::ranking::Ranking;
 use theory::refusal::Refusal;
 use theory::sign::Sign;
+use theory::stratum::Stratum;
 use theory::tally::Tally;
 
 impl<R: Ranking> Planner<R> {
@@ -32,7 +33,7 @@ impl<R: Ranking> Planner<R> {
     }
 
     /// The unit word of an effect and its stratum.
-    pub fn alias(&self, effect: u16) -> Result<(u8, u8), Refusal>
+    pub fn alias(&self, effect: u16) -> Result<(u8, Stratum), Refusal>
         ensures { Goes R.scored R.ranked self.now (ask (asked.alias effect result)) self.now }
     {
         match &self.plan {

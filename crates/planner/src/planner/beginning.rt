@@ -5,7 +5,7 @@ ghost use Rattle.planner.specs.Openings.{Begins, BeginsWith, Opened};
 
 use super::Planner;
 use key::Key;
-use opening::Shape;
+use opening::{Numbers, Shape};
 use ranking::ranking::Ranking;
 use theory::refusal::Refusal;
 use wishes::standing::Standing;
@@ -54,10 +54,10 @@ impl<R: Ranking> Planner<R> {
 
 impl<R: Ranking + Drop> Planner<R> {
     /// Opens a trial in this place with these numbers and this ranking: no wish and no plan stands.
-    pub fn open(&mut self, w: u16, s: u16, n1: u16, n2: u16, ranking: R) -> Result<(), Refusal>
-        ensures { Opened R.scored R.ranked w s n1 n2 ranking result self.old self.new }
+    pub fn open(&mut self, numbers: Numbers, ranking: R) -> Result<(), Refusal>
+        ensures { Opened R.scored R.ranked numbers.w numbers.s numbers.n1 numbers.n2 ranking result self.old self.new }
     {
-        *self = Planner::of(Shape::new(w, s, n1, n2)?, ranking);
+        *self = Planner::of(Shape::try_from(numbers)?, ranking);
         Ok(())
     }
 }

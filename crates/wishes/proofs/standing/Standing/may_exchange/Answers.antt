@@ -1,8 +1,9 @@
-use Rattle.std.proofs.Common.{ℕ, ◌≤◌, true, false, get_or, sym, refl, ap, ◌∙◌, inl, inr, arith}
+use Rattle.std.proofs.Common.{ℕ, ◌<◌, ◌≤◌, true, false, get_or, refl, inl, inr, arith, rules}
 use Rattle.std.proofs.ByRecursion.{All-more}
 use Rattle.std.proofs.lemmas.Bool.{false≢true}
 use Rattle.theory.specs.declared.wish.Wish.TheVariants.{Clear}
-use Rattle.opening.specs.Shapes.{homes_of, factors_of}
+use Rattle.opening.specs.Shapes.{factors_of}
+use Rattle.opening.proofs.Homes.{layers_differ, layers_same}
 use Rattle.wishes.specs.Standings.{wishes_in}
 use Rattle.wishes.proofs.Turning.{Kept, wish_of_ten, asked, all_kept, not_kept, no_pair, other_layer, exchangeable}
 use Rattle.wishes.proofs.standing.Standing.may_exchange.Goals as goal
@@ -19,12 +20,13 @@ returns-then-first-second c =
           ]) may),
     )
 
-pub returns-then-home : goal.returns-then-home
-returns-then-home c =
-    let shape = c.args.self.now.shape in (
+pub returns-then-ne : goal.returns-then-ne
+returns-then-ne c =
+    let shape = c.args.self.now.shape in
+    let second : c.args.second < factors_of shape = omega (arith, c.if-second-factors.false, c.factors.ensures) in (
       λ t. absurd (false≢true t),
       λ may. absurd (other_layer shape (wishes_in c.args.self.now) c.args.first c.args.second
-          (λ same. c.if-home.true (c.home.ensures ∙ ap (λ (k : ℕ). get_or (homes_of shape) k 0) c.from.ensures ∙ same ∙ ap (λ (k : ℕ). get_or (homes_of shape) k 0) (sym c.from-2.ensures) ∙ sym c.home-2.ensures)) may),
+          (layers_differ shape c.args.first c.args.second (omega (arith, c.if-first-second.false)) second c.ne.result (search rules) c.if-ne.true) may),
     )
 
 pub exchanged-requires : goal.exchanged-requires
@@ -66,7 +68,7 @@ returns c =
     let first : ℕ = c.args.first in
     let second : ℕ = c.args.second in (
       λ _. exchangeable shape wishes first second c.if-first-second.false (omega (arith, c.if-second-factors.false, c.factors.ensures))
-          (ap (λ (k : ℕ). get_or (homes_of shape) k 0) (sym c.from.ensures) ∙ sym c.home.ensures ∙ c.if-home.false ∙ c.home-2.ensures ∙ ap (λ (k : ℕ). get_or (homes_of shape) k 0) c.from-2.ensures)
+          (layers_same shape first second (omega (arith, c.if-first-second.false, c.if-second-factors.false, c.factors.ensures)) (omega (arith, c.if-second-factors.false, c.factors.ensures)) c.ne.result (search rules) c.if-ne.false)
           (all_kept first second wishes c.wishes-wish-items.result.now c.wishes-wish-items.ensures c.loop-wish.wish-index c.loop-wish-test.false c.loop-wish.invariant),
       λ _. refl,
     )
