@@ -6,6 +6,17 @@ use Rattle.theory.specs.declared.refusal.Refusal.TheVariants.{WishKind, WishForm
 use Rattle.theory.specs.declared.wish.Wish.{Wish}
 use Rattle.theory.specs.declared.wish.Wish.TheVariants.{Clear, Apart, Fine, Word, Least}
 use Rattle.theory.specs.Wishes.{formed}
+use Rattle.wishes.specs.declared.forming.Kind.{Kind}
+use Rattle.wishes.specs.declared.forming.Kind.TheVariants as kinds
+
+-- the kind with this number, or a refusal where there is no such kind
+abbrev pub naming : ℕ → Result Kind Refusal
+naming number =
+    cond (number == 1) (Ok kinds.Clear)
+    (cond (number == 2) (Ok kinds.Apart)
+    (cond (number == 3) (Ok kinds.Fine)
+    (cond (number == 4) (Ok kinds.Word)
+    (cond (number == 5) (Ok kinds.Least) (Err WishKind)))))
 
 -- the wish of a kind with the numbers e and f; none where there is no such kind
 abbrev pub wish_of : ℕ → ℕ → ℕ → Option Wish
@@ -19,6 +30,15 @@ wish_of kind e f =
 -- f is 0 except for apart
 abbrev pub second_fits : ℕ → ℕ → Bool
 second_fits kind f = kind == 2 || f == 0
+
+-- What three numbers name: a wish, or which of the two checks says 'no' first. Is the kind known? Is there a second number
+-- for apart alone?
+abbrev pub named : Bool → Option Wish → Result Wish Refusal
+named fits None = Err WishKind
+named fits (Some wish) = cond fits (Ok wish) (Err WishForm)
+
+abbrev pub wishing : ℕ → ℕ → ℕ → Result Wish Refusal
+wishing kind e f = named (second_fits kind f) (wish_of kind e f)
 
 -- What forming a wish of n factors answers: the wish, or which of the two checks says 'no' first. Is the kind known? Are
 -- the numbers as it asks?

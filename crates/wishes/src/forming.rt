@@ -3,18 +3,71 @@
 ghost use Rattle.std.specs.Prelude.{◌≡◌, ◌≤◌};
 ghost use Rattle.theory.specs.Wishes.{low, formed};
 ghost use Rattle.opening.specs.Shapes.{factors_of};
-ghost use Rattle.wishes.specs.Forms.{forming};
+ghost use Rattle.wishes.specs.Forms.{naming, wishing, forming};
 
 use opening::Shape;
 use theory::refusal::Refusal;
 use theory::wish::Wish;
+
+/// A kind of wish, by its number.
+#[derive(Clone, Copy, Debug, PartialEq, Eq)]
+pub enum Kind {
+    Clear = 1,
+    Apart = 2,
+    Fine = 3,
+    Word = 4,
+    Least = 5,
+}
+
+impl TryFrom<u16> for Kind {
+    type Error = Refusal;
+
+    ghost try_from_gives = { λ number r. r ≡ naming number };
+
+    fn try_from(number: u16) -> Result<Kind, Refusal> {
+        match number {
+            1 => Ok(Kind::Clear),
+            2 => Ok(Kind::Apart),
+            3 => Ok(Kind::Fine),
+            4 => Ok(Kind::Word),
+            5 => Ok(Kind::Least),
+            _ => Err(Refusal::WishKind),
+        }
+    }
+}
+
+/// The numbers that name a wish: its kind, and one or two more. The last is 0 except for apart.
+#[derive(Clone, Copy, Debug, PartialEq, Eq)]
+pub struct WishNumbers {
+    pub kind: u16,
+    pub e: u16,
+    pub f: u16,
+}
+
+impl TryFrom<WishNumbers> for Wish {
+    type Error = Refusal;
+
+    ghost try_from_gives = { λ numbers r. r ≡ wishing numbers.kind numbers.e numbers.f };
+
+    fn try_from(numbers: WishNumbers) -> Result<Wish, Refusal> {
+        let WishNumbers { kind, e, f } = numbers;
+        match (Kind::try_from(kind)?, f) {
+            (Kind::Apart, _) => Ok(Wish::Apart(e, f)),
+            (Kind::Clear, 0) => Ok(Wish::Clear(e)),
+            (Kind::Fine, 0) => Ok(Wish::Fine(e)),
+            (Kind::Word, 0) => Ok(Wish::Word(e)),
+            (Kind::Least, 0) => Ok(Wish::Least(e)),
+            _ => Err(Refusal::WishForm),
+        }
+    }
+}
 
 /// Whether this is a main effect or an interaction of `n` factors.
 fn is_low(n: u8, e: u16) -> bool
     requires { n ≤ 10 }
     ensures { result ≡ low n e }
 {
-    e < 1 << n && e.count_ones() >= 1 && e.count_ones() <= 2
+    e < 1 << n && (1..=2).contains(&e.count_ones())
 }
 
 /// Whether the numbers of a wish are as its kind asks, where there are `n` factors.
@@ -23,30 +76,20 @@ pub(crate) fn is_formed(n: u8, wish: Wish) -> bool
     ensures { result ≡ formed n wish }
 {
     match wish {
-        Wish::Clear(e) if e.count_ones() == 2 => e < 1 << n,
-        Wish::Apart(e, f) if e < f => is_low(n, e) && is_low(n, f),
+        Wish::Clear(e) => e < 1 << n && e.count_ones() == 2,
+        Wish::Apart(e, f) => e < f && is_low(n, e) && is_low(n, f),
         Wish::Fine(e) => is_low(n, e),
-        Wish::Word(e) if e.count_ones() >= 3 => e < 1 << n,
-        Wish::Least(r) if 3 <= r && r <= 10 => true,
-        _ => false,
+        Wish::Word(e) => e < 1 << n && e.count_ones() >= 3,
+        Wish::Least(r) => (3..=10).contains(&r),
     }
 }
 
-/// The wish of this kind with these numbers: 1 clear, 2 apart, 3 fine, 4 word, 5 least.
-///
-/// The second number is 0 except for apart.
-pub fn form(shape: Shape, kind: u16, e: u16, f: u16) -> Result<Wish, Refusal>
-    ensures { result ≡ forming (factors_of shape) kind e f }
+/// The wish with these numbers; refused where there is no such kind, and then where the numbers are
+/// not as the kind asks.
+pub fn form(shape: Shape, numbers: WishNumbers) -> Result<Wish, Refusal>
+    ensures { result ≡ forming (factors_of shape) numbers.kind numbers.e numbers.f }
 {
-    let wish = match (kind, f) {
-        (1, 0) => Wish::Clear(e),
-        (2, _) => Wish::Apart(e, f),
-        (3, 0) => Wish::Fine(e),
-        (4, 0) => Wish::Word(e),
-        (5, 0) => Wish::Least(e),
-        (1..=5, _) => return Err(Refusal::WishForm),
-        _ => return Err(Refusal::WishKind),
-    };
+    let wish = Wish::try_from(numbers)?;
     if !is_formed(shape.factors(), wish) {
         return Err(Refusal::WishForm);
     }
