@@ -1,11 +1,7 @@
 -- A wish that the first columns fail.
-use Rattle.std.proofs.Common.{◌≡◌, ℕ, ◌+◌, ◌<◌, ◌≤◌, Bool, true, false, ltb, List, [], ◌∷◌, length, get_or, take, Some, None, MatchBool, sym, refl, ap, ◌∙◌, subst, arith, length-take}
+use Rattle.std.proofs.Common.{◌≡◌, ℕ, ◌+◌, ◌<◌, ◌≤◌, Bool, true, false, ltb, List, [], ◌∷◌, length, take, All, Some, None, Option, MatchBool, MatchOption, sym, refl, ap, ◌∙◌, subst, arith, length-take}
 use native.Mathlib.Nat.{min-le_right}
-use Rattle.std.specs.List.{AllByRecursion}
-use Rattle.std.proofs.ByRecursion.{all-has, All-more, has_get_or}
-use Rattle.std.proofs.lemmas.List.{take_all}
 use Rattle.std.proofs.lemmas.Bool.{ltb-true, ltb-false}
-use Rattle.std.proofs.lemmas.Bool.Decides.{when_true, when_false}
 use Rattle.theory.specs.declared.wish.Wish.{Wish}
 use Rattle.theory.specs.declared.wish.Wish.TheVariants.{Clear, Least}
 use Rattle.theory.specs.Words.{alias}
@@ -14,7 +10,7 @@ use Rattle.theory.specs.Tallies.{members, resolution}
 use Rattle.theory.specs.Wishes.{Formed, Meets}
 use Rattle.theory.proofs.Defining.{resolution_fact}
 use Rattle.theory.proofs.Fronts.{front_fact}
-use Rattle.wishes.specs.Tests.{Fails, Passes, MetByNone, SomeFails, AllMetByNone}
+use Rattle.wishes.specs.Tests.{Fails, Passes, MetByNone}
 use Rattle.wishes.proofs.Counting.{clear_met, clear_main, clear_other, least_none, least_met, least_short}
 
 pub when_by : {P Q : Type 0} (b : Bool) → (b ≡ true → P) → (b ≡ false → Q) → MatchBool b P Q
@@ -58,34 +54,15 @@ module _ (ws cs : List ℕ) (wish : Wish) (formed : Formed (length cs) wish) whe
       of : Formed (length cs) (Clear e)
       of = subst (Formed (length cs)) is formed
 
-  pub least_by_some : (r j : ℕ) → wish ≡ Least r → Some j ≡ resolution cs → Unmet ws cs wish (ltb j r)
-  least_by_some r j is least =
-      subst (λ (y : Wish). Unmet ws cs y (ltb j r)) (sym is)
-      (when_by (ltb j r) (λ t. least_short ws cs r j law (ltb-true j r t)) (λ t. least_met ws cs r j law (ltb-false j r t)))
+  pub least_by : (r : ℕ) (o : Option ℕ) (Told : ℕ → Type 0) (unmet : Bool) → wish ≡ Least r → o ≡ resolution cs → MatchOption o (unmet ≡ false) Told → ((j : ℕ) → Told j → unmet ≡ ltb j r) → Unmet ws cs wish unmet
+  least_by r o Told unmet is least found told = subst (λ (y : Wish). Unmet ws cs y unmet) (sym is) (go o (subst (Resolves cs) (sym least) (resolution_fact cs)) found)
     where
-      law : Resolves cs (Some j)
-      law = subst (Resolves cs) (sym least) (resolution_fact cs)
-
-  pub least_by_none : (r : ℕ) → wish ≡ Least r → None ≡ resolution cs → Meets ws cs wish
-  least_by_none r is least = subst (Meets ws cs) (sym is) (least_none ws cs r (subst (Resolves cs) (sym least) (resolution_fact cs)))
+      go : (o : Option ℕ) → Resolves cs o → MatchOption o (unmet ≡ false) Told → Unmet ws cs (Least r) unmet
+      go None law e = rw e (least_none ws cs r law)
+      go (Some j) law t = rw (told j t) (when_by (ltb j r) (λ t. least_short ws cs r j law (ltb-true j r t)) (λ t. least_met ws cs r j law (ltb-false j r t)))
 
 -- ---- a list of wishes
-pub some_fails_for_all : (ws cs : List ℕ) (wishes : List Wish) → SomeFails ws cs wishes → AllMetByNone ws cs wishes
-some_fails_for_all ws cs wishes (wish, has, fails) ds begins met = fails_for_all ws cs wish fails ds begins (all-has (Meets ws ds) wishes wish met has)
 
 -- where no wish of a whole key's factors fails, the key meets all of them
-pub none_fails_met : (ws cs : List ℕ) (wishes : List Wish) → AllByRecursion (Formed (length cs)) wishes → AllByRecursion (Passes ws cs) wishes → AllByRecursion (Meets ws cs) wishes
-none_fails_met ws cs [] formed pass = tt
-none_fails_met ws cs (wish ∷ wishes) formed pass = (pass.0 formed.0, none_fails_met ws cs wishes formed.1 pass.1)
-
--- a loop that looks for a wish that fails
-module _ (ws cs : List ℕ) (wishes items : List Wish) (same : items ≡ wishes) (i : ℕ) where
-  pub some_found : (d : Wish) (r : Bool) → i < length items → r ≡ true → MatchBool r (Fails ws cs (get_or items i d)) (Passes ws cs (get_or items i d)) → SomeFails ws cs wishes
-  some_found d r h t test =
-      subst (SomeFails ws cs) same (get_or items i d, has_get_or items i d h, when_true (Fails ws cs (get_or items i d)) (Passes ws cs (get_or items i d)) t test)
-
-  pub none_more : (d : Wish) (r : Bool) → i < length items → AllByRecursion (Passes ws cs) (take i items) → r ≡ false → MatchBool r (Fails ws cs (get_or items i d)) (Passes ws cs (get_or items i d)) → AllByRecursion (Passes ws cs) (take (i + 1) items)
-  none_more d r h none f test = All-more (Passes ws cs) items i d h none (when_false (Fails ws cs (get_or items i d)) (Passes ws cs (get_or items i d)) f test)
-
-  pub none_found : length items ≤ i → AllByRecursion (Passes ws cs) (take i items) → AllByRecursion (Passes ws cs) wishes
-  none_found h none = subst (AllByRecursion (Passes ws cs)) (take_all i items h ∙ same) none
+pub none_fails_met : (ws cs : List ℕ) (wishes : List Wish) → All (Formed (length cs)) wishes → All (Passes ws cs) wishes → All (Meets ws cs) wishes
+none_fails_met ws cs wishes formed pass k d h = pass k d h (formed k d h)

@@ -1,11 +1,10 @@
 -- Lists of wishes: what a list has, a wish more, a wish less.
-use Rattle.std.proofs.Common.{◌≡◌, ℕ, ◌+◌, ◌<◌, ◌≤◌, Bool, true, false, not, ◌&&◌, eqb, ◌⊎◌, List, [], ◌∷◌, ◌++◌, length, get_or, take, set, Some, Decides, filter, sym, refl, ◌∙◌, subst, subst₂, inl, inr}
-use Rattle.std.specs.List.{ContainsAt as Has, AllByRecursion}
+use Rattle.std.proofs.Common.{◌≡◌, ℕ, ◌+◌, ◌<◌, ◌≤◌, Bool, true, false, not, ◌&&◌, eqb, ◌⊎◌, List, [], ◌∷◌, ◌++◌, length, get_or, take, set, Some, Decides, All, filter, sym, refl, ◌∙◌, subst, subst₂, inl, inr}
+use Rattle.std.specs.List.{ContainsAt as Has}
 use Rattle.std.proofs.lemmas.List.Filters.{FiltersInPlace, FiltersInPlace-more_no, FiltersInPlace-more_set}
-use Rattle.std.proofs.lemmas.List.{get_or_default, take_more, take_all}
-use Rattle.std.proofs.ByRecursion.{has_get_or, Decides-by_and}
+use Rattle.std.proofs.lemmas.List.{get_or_default}
 use Rattle.std.proofs.lemmas.Bool.{eqb-true, eq-eqb, and_parts, and_from, or_parts, or_from, not-true, not_from_true, not_from_false, both_ways, cases_Bool, cond_both}
-use Rattle.std.proofs.lemmas.Bool.Decides.{Decides-by_or}
+use Rattle.std.proofs.lemmas.Bool.Decides.{Decides-by_or, Decides-by_and}
 use Rattle.theory.specs.declared.wish.Wish.{Wish}
 use Rattle.theory.specs.declared.wish.Wish.TheVariants.{Clear, Apart, Fine, Word, Least}
 use Rattle.theory.specs.Wishes.{Formed, formed}
@@ -54,7 +53,7 @@ other_way x y f = go (cases_Bool (same_wish y x))
 pub stands_has : (xs : List Wish) (wish : Wish) → Decides (stands xs wish) (Has xs wish)
 stands_has xs wish = Decides-by_or (λ x. same_wish x wish) (λ x. x ≡ wish) (λ ys. stands ys wish) (λ x. same_decides x wish) refl (λ _ _. refl) xs
 
-pub all_formed_lem : (n : ℕ) (xs : List Wish) → Decides (all_formed n xs) (AllByRecursion (Formed n) xs)
+pub all_formed_lem : (n : ℕ) (xs : List Wish) → Decides (all_formed n xs) (All (Formed n) xs)
 all_formed_lem n xs = Decides-by_and (formed n) (Formed n) (all_formed n) (formed_fact n) refl (λ _ _. refl) xs
 
 stands_append : (xs ys : List Wish) (wish : Wish) → stands xs wish ≡ false → stands ys wish ≡ false → stands (xs ++ ys) wish ≡ false
@@ -62,18 +61,6 @@ stands_append [] ys wish f g = g
 stands_append (x ∷ xs) ys wish f g =
     let parts = or_parts (same_wish x wish) (stands xs wish) f in
     or_from (same_wish x wish) (stands (xs ++ ys) wish) parts.0 (stands_append xs ys wish parts.1 g)
-
--- a loop that looks for a wish
-pub stands_at : (xs : List Wish) (wish : Wish) (i : ℕ) (d : Wish) → i < length xs → same_wish (get_or xs i d) wish ≡ true → stands xs wish ≡ true
-stands_at xs wish i d h t = (stands_has xs wish).1 (subst (Has xs) ((same_decides (get_or xs i d) wish).0 t) (has_get_or xs i d h))
-
-pub stands_more : (xs : List Wish) (wish : Wish) (i : ℕ) (d : Wish) → i < length xs → stands (take i xs) wish ≡ false → same_wish (get_or xs i d) wish ≡ false → stands (take (i + 1) xs) wish ≡ false
-stands_more xs wish i d h none f =
-    subst (λ (ys : List Wish). stands ys wish ≡ false) (sym (take_more xs i d h))
-    (stands_append (take i xs) (get_or xs i d ∷ []) wish none (or_from (same_wish (get_or xs i d) wish) false f refl))
-
-pub stands_none : (xs : List Wish) (wish : Wish) (i : ℕ) → length xs ≤ i → stands (take i xs) wish ≡ false → stands xs wish ≡ false
-stands_none xs wish i h none = subst (λ (ys : List Wish). stands ys wish ≡ false) (take_all i xs h) none
 
 -- ---- a wish more
 pub formed_push : (n : ℕ) (xs : List Wish) (wish : Wish) → all_formed n xs ≡ true → formed n wish ≡ true → all_formed n (xs ++ wish ∷ []) ≡ true

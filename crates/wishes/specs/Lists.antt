@@ -1,5 +1,6 @@
 -- Lists of wishes. Assumes nothing.
 use Rattle.std.specs.Prelude.{◌≡◌, ℕ, Bool, true, false, not, ◌&&◌, ◌||◌, List, [], ◌∷◌, filter, ◌==◌, refl}
+use Rattle.std.specs.List.{list_any, list_all}
 use Rattle.theory.specs.declared.wish.Wish.{Wish}
 use Rattle.theory.specs.declared.wish.Wish.TheVariants.{Clear, Apart, Fine, Word, Least}
 use Rattle.theory.specs.Wishes.{formed}
@@ -31,13 +32,11 @@ same_wish x y = kind_of x == kind_of y && (first_number x == first_number y && s
 
 -- the list has the wish
 abbrev pub stands : List Wish → Wish → Bool
-stands [] wish = false
-stands (x ∷ xs) wish = same_wish x wish || stands xs wish
+stands xs wish = list_any (λ x. same_wish x wish) xs
 
 -- each wish of the list is formed, where there are n factors
 abbrev pub all_formed : ℕ → List Wish → Bool
-all_formed n [] = true
-all_formed n (x ∷ xs) = formed n x && all_formed n xs
+all_formed n xs = list_all (formed n) xs
 
 -- no wish is in the list twice
 abbrev pub distinct : List Wish → Bool

@@ -1,6 +1,5 @@
 -- What the first columns of a key say of a wish. Assumes nothing.
-use Rattle.std.specs.Prelude.{◌≡◌, ℕ, ◌<◌, List, [], ◌∷◌, length, take, refl}
-use Rattle.std.specs.List.{ContainsAt as Has, AllByRecursion}
+use Rattle.std.specs.Prelude.{◌≡◌, ℕ, List, [], ◌∷◌, length, take, All, Any, refl}
 use Rattle.theory.specs.declared.wish.Wish.{Wish}
 use Rattle.theory.specs.declared.wish.Wish.TheVariants.{Clear, Apart, Fine, Word, Least}
 use Rattle.theory.specs.Wishes.{Formed, Meets}
@@ -19,18 +18,10 @@ MetByNone ws cs wish = (ds : List ℕ) → take (length cs) ds ≡ cs → Meets 
 
 -- the same for a list of wishes: some wish fails, and then no key that begins so meets all
 abbrev pub SomeFails : List ℕ → List ℕ → List Wish → Type 0
-SomeFails ws cs wishes = (wish : Wish) × Has wishes wish × Fails ws cs wish
+SomeFails ws cs wishes = Any (Fails ws cs) wishes
 
 abbrev pub AllMetByNone : List ℕ → List ℕ → List Wish → Type 0
-AllMetByNone ws cs wishes = (ds : List ℕ) → take (length cs) ds ≡ cs → AllByRecursion (Meets ws ds) wishes → ⊥
-
--- each effect that the wish names is one of ten factors
-abbrev pub OfTen : Wish → Type 0
-OfTen (Clear e) = e < 1024
-OfTen (Apart e f) = (e < 1024) × (f < 1024)
-OfTen (Fine e) = e < 1024
-OfTen (Word e) = e < 1024
-OfTen (Least r) = Unit {0}
+AllMetByNone ws cs wishes = (ds : List ℕ) → take (length cs) ds ≡ cs → All (Meets ws ds) wishes → ⊥
 
 -- the first three columns of (1, 4, 5, 6) meet the wish for the word Apq, since its alias is 0
 example_passes : Passes (2 ∷ 1 ∷ []) (1 ∷ 4 ∷ 5 ∷ []) (Word 7)

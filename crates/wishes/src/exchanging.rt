@@ -1,63 +1,38 @@
 //! Effects and wishes with two factors exchanged.
 
-ghost use Rattle.std.specs.Prelude.{◌≡◌, ◌+◌, ◌<◌};
-ghost use Rattle.exchange.specs.Exchanges.{effect_turned, wish_turned, wish_over};
-ghost use Rattle.wishes.specs.Tests.{OfTen};
+ghost use Rattle.std.specs.Prelude.{◌≡◌, ◌<◌};
+ghost use Rattle.exchange.specs.Exchanges.{wish_exchanged};
+ghost use Rattle.wishes.specs.Exchanging.{IsExchanged};
 
 use theory::wish::Wish;
 
-/// The effect with this factor for the next one and the other way round.
-fn turned_effect(effect: u16, factor: u8) -> u16
-    requires effect { effect < 1024 }
-    requires factor { factor < 9 }
-    ensures value { result ≡ effect_turned factor effect }
-    ensures small { result < 1024 }
+/// The effect with these two factors exchanged.
+fn exchanged_effect(effect: u16, first: u8, second: u8) -> u16
+    requires order { first < second }
+    requires within { second < 10 }
+    ensures { IsExchanged first second effect result }
 {
-    let this = (effect >> factor) % 2;
-    let next = (effect >> (factor + 1)) % 2;
-    if this > next {
-        effect + (1 << factor)
-    } else if this < next {
-        effect - (1 << factor)
-    } else {
-        effect
+    if (effect >> first) % 2 == (effect >> second) % 2 {
+        return effect;
     }
+    effect ^ (1 << first | 1 << second)
 }
 
-/// The wish with this factor for the next one and the other way round.
-fn turned(wish: Wish, factor: u8) -> Wish
-    requires wish { OfTen wish }
-    requires factor { factor < 9 }
-    ensures value { result ≡ wish_turned factor wish }
-    ensures small { OfTen result }
+/// The wish with these two factors exchanged.
+pub(crate) fn exchanged(wish: Wish, first: u8, second: u8) -> Wish
+    requires order { first < second }
+    requires within { second < 10 }
+    ensures { result ≡ wish_exchanged first second wish }
 {
     match wish {
-        Wish::Clear(e) => Wish::Clear(turned_effect(e, factor)),
+        Wish::Clear(e) => Wish::Clear(exchanged_effect(e, first, second)),
         Wish::Apart(e, f) => {
-            let first = turned_effect(e, factor);
-            let second = turned_effect(f, factor);
-            if first < second {
-                Wish::Apart(first, second)
-            } else {
-                Wish::Apart(second, first)
-            }
+            let e = exchanged_effect(e, first, second);
+            let f = exchanged_effect(f, first, second);
+            Wish::Apart(e.min(f), e.max(f))
         }
-        Wish::Fine(e) => Wish::Fine(turned_effect(e, factor)),
-        Wish::Word(e) => Wish::Word(turned_effect(e, factor)),
+        Wish::Fine(e) => Wish::Fine(exchanged_effect(e, first, second)),
+        Wish::Word(e) => Wish::Word(exchanged_effect(e, first, second)),
         Wish::Least(r) => Wish::Least(r),
     }
-}
-
-/// The wish with this factor for the one behind so many more, and the other way round.
-pub(crate) fn exchanged(wish: Wish, factor: u8, between: u8) -> Wish
-    requires wish { OfTen wish }
-    requires factors { between + factor < 9 }
-    ensures value { result ≡ wish_over between factor wish }
-    ensures small { OfTen result }
-{
-    let first = turned(wish, factor);
-    if between == 0 {
-        return first;
-    }
-    turned(exchanged(first, factor + 1, between - 1), factor)
 }

@@ -63,7 +63,7 @@ impl TryFrom<WishNumbers> for Wish {
 }
 
 /// Whether this is a main effect or an interaction of `n` factors.
-fn is_low(n: u8, e: u16) -> bool
+fn is_low(n: usize, e: u16) -> bool
     requires { n ≤ 10 }
     ensures { result ≡ low n e }
 {
@@ -71,7 +71,7 @@ fn is_low(n: u8, e: u16) -> bool
 }
 
 /// Whether the numbers of a wish are as its kind asks, where there are `n` factors.
-pub(crate) fn is_formed(n: u8, wish: Wish) -> bool
+pub(crate) fn is_formed(n: usize, wish: Wish) -> bool
     requires { n ≤ 10 }
     ensures { result ≡ formed n wish }
 {
@@ -90,7 +90,7 @@ pub fn form(shape: Shape, numbers: WishNumbers) -> Result<Wish, Refusal>
     ensures { result ≡ forming (factors_of shape) numbers.kind numbers.e numbers.f }
 {
     let wish = Wish::try_from(numbers)?;
-    if !is_formed(shape.factors(), wish) {
+    if !is_formed(usize::from(shape.factors()), wish) {
         return Err(Refusal::WishForm);
     }
     Ok(wish)

@@ -24,10 +24,9 @@ fn is_unmet(counts: &Counts, wish: Wish) -> bool
         Wish::Apart(e, f) => counts.alias(e) == counts.alias(f),
         Wish::Fine(e) => counts.shape().stratum(counts.alias(e)) != Stratum::Subplots,
         Wish::Word(e) => counts.alias(e) != 0,
-        Wish::Least(r) => match counts.resolution() {
-            Some(length) => u16::from(length) < r,
-            None => false,
-        },
+        Wish::Least(r) => counts
+            .resolution()
+            .is_some_and(|length| u16::from(length) < r),
     }
 }
 
@@ -39,5 +38,5 @@ pub fn fails(counts: &Counts, wish: Wish) -> bool
     ensures test { MatchBool result (Fails (layers_of counts.now.shape) (columns_in counts.now) wish) (Passes (layers_of counts.now.shape) (columns_in counts.now) wish) }
     ensures front { result ≡ true → MetByNone (layers_of counts.now.shape) (columns_in counts.now) wish }
 {
-    is_formed(counts.columns().len() as u8, wish) && is_unmet(counts, wish)
+    is_formed(counts.columns().len(), wish) && is_unmet(counts, wish)
 }

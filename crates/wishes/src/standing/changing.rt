@@ -5,7 +5,6 @@ ghost use Rattle.opening.specs.Shapes.{factors_of};
 ghost use Rattle.wishes.specs.Lists.{without};
 ghost use Rattle.wishes.specs.Standings.{wishes_in, adding, striking, Changed};
 
-use super::reading::same;
 use super::{LIMIT, Standing};
 use crate::forming::is_formed;
 use opening::Shape;
@@ -24,7 +23,7 @@ fn rest(list: [Wish; LIMIT], count: usize, wish: Wish) -> ([Wish; LIMIT], usize)
     let mut others = list;
     let mut size = 0;
     for i in 0..count {
-        if !same(others[i], wish) {
+        if others[i] != wish {
             others[size] = others[i];
             size += 1;
         }
@@ -51,7 +50,7 @@ impl Standing {
         ensures answer { result ≡ adding (factors_of self.old.shape) (wishes_in self.old) wish }
         ensures after { Changed result self.old self.new (wishes_in self.old ++ wish ∷ []) }
     {
-        if !is_formed(self.shape.factors(), wish) {
+        if !is_formed(usize::from(self.shape.factors()), wish) {
             return Err(Refusal::WishForm);
         }
         if self.holds(wish) {

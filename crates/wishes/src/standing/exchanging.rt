@@ -1,12 +1,23 @@
 //! Which factors the standing wishes do not tell apart.
 
-ghost use Rattle.std.specs.Prelude.{Decides};
+ghost use Rattle.std.specs.Prelude.{◌≡◌, ◌<◌, Decides, slice_index};
 ghost use Rattle.exchange.specs.Outdoing.{Exchangeable};
-ghost use Rattle.opening.specs.Shapes.{homes_of};
+ghost use Rattle.opening.specs.Shapes.{factors_of, homes_of};
 ghost use Rattle.wishes.specs.Standings.{wishes_in};
 
 use super::Standing;
 use crate::exchanging::exchanged;
+use opening::Shape;
+
+/// Whether there are these two factors, counted from 0, the first one before the second, and both are
+/// whole-plot or both subplot factors.
+fn are_alike(shape: Shape, first: u8, second: u8) -> bool
+    ensures { Decides result ((first < second) × (second < factors_of shape) × (slice_index (homes_of shape) first ≡ slice_index (homes_of shape) second)) }
+{
+    first < second
+        && second < shape.factors()
+        && shape.home(usize::from(first)) == shape.home(usize::from(second))
+}
 
 impl Standing {
     /// Whether two factors, counted from 0, the first one before the second, may be exchanged: both are
@@ -15,17 +26,10 @@ impl Standing {
     pub fn may_exchange(&self, first: u8, second: u8) -> bool
         ensures { Decides result (Exchangeable (homes_of self.now.shape) (wishes_in self.now) first second) }
     {
-        if first >= second || second >= self.shape.factors() {
-            return false;
-        }
-        if self.shape.home(usize::from(first)) != self.shape.home(usize::from(second)) {
-            return false;
-        }
-        for wish in self.wishes() {
-            if !self.holds(exchanged(*wish, first, second - first - 1)) {
-                return false;
-            }
-        }
-        true
+        are_alike(self.shape, first, second)
+            && self
+                .wishes()
+                .iter()
+                .all(|wish| self.holds(exchanged(*wish, first, second)))
     }
 }

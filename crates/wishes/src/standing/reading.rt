@@ -1,10 +1,9 @@
 //! Which wishes stand, and whether columns fail one.
 
-ghost use Rattle.std.specs.Prelude.{◌≡◌, true, MatchBool};
-ghost use Rattle.std.specs.List.{AllByRecursion};
+ghost use Rattle.std.specs.Prelude.{◌≡◌, true, All, MatchBool};
 ghost use Rattle.opening.specs.Shapes.{layers_of};
 ghost use Rattle.figures.specs.Counted.{columns_in};
-ghost use Rattle.wishes.specs.Lists.{same_wish, stands};
+ghost use Rattle.wishes.specs.Lists.{stands};
 ghost use Rattle.wishes.specs.Standings.{wishes_in};
 ghost use Rattle.wishes.specs.Tests.{Passes, SomeFails, AllMetByNone};
 
@@ -13,13 +12,6 @@ use crate::meeting::fails;
 use figures::counts::Counts;
 use opening::Shape;
 use theory::wish::Wish;
-
-/// Whether two wishes are of one kind with the same numbers.
-pub(super) fn same(wish: Wish, other: Wish) -> bool
-    ensures { result ≡ same_wish wish other }
-{
-    wish == other
-}
 
 impl Standing {
     /// The trial's numbers.
@@ -40,26 +32,16 @@ impl Standing {
     pub fn holds(&self, wish: Wish) -> bool
         ensures { result ≡ stands (wishes_in self.now) wish }
     {
-        for standing in self.wishes() {
-            if same(*standing, wish) {
-                return true;
-            }
-        }
-        false
+        self.wishes().contains(&wish)
     }
 
     /// Whether the columns fail some wish that stands. Then no key that begins with them meets all.
     ///
     /// On the columns of a whole key this is whether the key does not meet all wishes that stand.
     pub fn any_fails(&self, counts: &Counts) -> bool
-        ensures test { MatchBool result (SomeFails (layers_of counts.now.shape) (columns_in counts.now) (wishes_in self.now)) (AllByRecursion (Passes (layers_of counts.now.shape) (columns_in counts.now)) (wishes_in self.now)) }
+        ensures test { MatchBool result (SomeFails (layers_of counts.now.shape) (columns_in counts.now) (wishes_in self.now)) (All (Passes (layers_of counts.now.shape) (columns_in counts.now)) (wishes_in self.now)) }
         ensures front { result ≡ true → AllMetByNone (layers_of counts.now.shape) (columns_in counts.now) (wishes_in self.now) }
     {
-        for wish in self.wishes() {
-            if fails(counts, *wish) {
-                return true;
-            }
-        }
-        false
+        self.wishes().iter().any(|wish| fails(counts, *wish))
     }
 }

@@ -1,4 +1,0 @@
-use Rattle.wishes.proofs.exchanging.+exchanged.Given as goal
-
-abbrev pub decreases-exchanged : goal.decreases-exchanged
-decreases-exchanged l = l.between
