@@ -1,16 +1,23 @@
 -- Lists of wishes: what a list has, a wish more, a wish less.
-use Rattle.std.proofs.Common.{◌≡◌, ℕ, ◌+◌, ◌<◌, ◌≤◌, Bool, true, false, not, ◌&&◌, eqb, ◌⊎◌, List, [], ◌∷◌, ◌++◌, length, get_or, take, set, Some, Decides, All, filter, sym, refl, ◌∙◌, subst, subst₂, inl, inr}
-use Rattle.std.specs.List.{ContainsAt as Has}
+use Rattle.std.proofs.Common.{◌≡◌, ℕ, suc, ◌+◌, ◌<◌, ◌≤◌, Bool, true, false, not, ◌&&◌, eqb, ◌⊎◌, List, [], ◌∷◌, ◌++◌, length, get_or, take, Some, None, Option, Ok, Err, Result, OnSome, OnOk, OnErr, Decides, All, filter, sym, refl, ap, ◌∙◌, subst, inl, inr, arith}
+use Rattle.std.specs.List.{ContainsAt as Has, position, position_or_len, remove, slice_get}
+use Rattle.std.specs.Option.{ok_or}
+use Rattle.std.proofs.lemmas.Option.{slice_get-get_or}
+use Rattle.theory.specs.declared.refusal.Refusal.{Refusal}
+use Rattle.theory.specs.declared.refusal.Refusal.TheVariants.{WishAbsent}
+use Rattle.wishes.specs.Standings.{striking}
 use Rattle.std.proofs.lemmas.List.Filters.{FiltersInPlace, FiltersInPlace-more_no, FiltersInPlace-more_set}
 use Rattle.std.proofs.lemmas.List.{get_or_default}
-use Rattle.std.proofs.lemmas.Bool.{eqb-true, eq-eqb, and_parts, and_from, or_parts, or_from, not-true, not_from_true, not_from_false, both_ways, cases_Bool, cond_both}
+use Rattle.std.proofs.lemmas.Bool.{eqb-true, eq-eqb, and_parts, and_from, or_parts, or_from, not-true, not_from_true, not_from_false, both_ways, cases_Bool, cases_lt, lt-ltb, le-ltb, cond_both}
 use Rattle.std.proofs.lemmas.Bool.Decides.{Decides-by_or, Decides-by_and}
+use Rattle.few.specs.declared.Full.{Full}
+use Rattle.few.specs.Few.{Few}
 use Rattle.theory.specs.declared.wish.Wish.{Wish}
 use Rattle.theory.specs.declared.wish.Wish.TheVariants.{Clear, Apart, Fine, Word, Least}
 use Rattle.theory.specs.Wishes.{Formed, formed}
 use Rattle.theory.proofs.Fronts.{formed_fact}
 use Rattle.wishes.specs.Forms.{wish_of}
-use Rattle.wishes.specs.Lists.{kind_of, first_number, second_number, same_wish, stands, all_formed, distinct}
+use Rattle.wishes.specs.Lists.{without, kind_of, first_number, second_number, same_wish, stands, all_formed, distinct}
 
 -- ---- one wish and another
 
@@ -77,6 +84,12 @@ distinct_push (x ∷ xs) wish once f =
     let still = stands_append xs (wish ∷ []) x (not-true (stands xs x) parts.0) (or_from (same_wish wish x) false (other_way x wish none.0) refl) in
     and_from (not (stands (xs ++ wish ∷ []) x)) (distinct (xs ++ wish ∷ [])) (not_from_false (stands (xs ++ wish ∷ []) x) still) (distinct_push xs wish parts.1 none.1)
 
+-- what stands once it was added, or refused for want of room
+pub one_more : (n : ℕ) (wish : Wish) (old new : Few Wish) (r : Result Unit Full) → OnOk r (new.items ≡ old.items ++ wish ∷ []) → OnErr r (new ≡ old)
+    → all_formed n old.items ≡ true → distinct old.items ≡ true → formed n wish ≡ true → stands old.items wish ≡ false → (all_formed n new.items ≡ true) × (distinct new.items ≡ true)
+one_more n wish old new (Ok _) more same all once of none = rw more (formed_push n old.items wish all of, distinct_push old.items wish once none)
+one_more n wish old new (Err _) more same all once of none = rw same (all, once)
+
 -- ---- a wish less
 module _ (p : Wish → Bool) where
   stands_kept : (xs : List Wish) (wish : Wish) → stands xs wish ≡ false → stands (filter p xs) wish ≡ false
@@ -104,17 +117,59 @@ module _ (p : Wish → Bool) where
       (not_from_false (stands (filter p xs) x) (stands_kept xs x (not-true (stands xs x) parts.0))) (distinct_kept xs parts.1))
       (λ _. distinct_kept xs parts.1)
 
--- a loop that moves the other wishes up
-module _ (wish : Wish) (xs ys zs : List Wish) (k i m : ℕ) (d : Wish) (so_far : FiltersInPlace (λ x. not (same_wish x wish)) xs ys k i) (h : i < length ys) where
-  read : get_or ys i d ≡ get_or ys i (get_or ys i d)
-  read = get_or_default ys i d (get_or ys i d) h
+-- ---- the place of a wish, and the list without it
+module _ (wish : Wish) where
+  abbrev pub is_it : Wish → Bool
+  is_it x = same_wish x wish
 
-  pub rest_keeps : same_wish (get_or ys i d) wish ≡ false → zs ≡ set ys k (get_or ys i d) → m ≡ k + 1 → FiltersInPlace (λ x. not (same_wish x wish)) xs zs m (i + 1)
-  rest_keeps f written more =
-      subst₂ (λ (us : List Wish) (n : ℕ). FiltersInPlace (λ x. not (same_wish x wish)) xs us n (i + 1)) (sym written) (sym more)
-      (FiltersInPlace-more_set so_far h (not_from_false (same_wish (get_or ys i d) wish) f) read)
+  none_left : (xs : List Wish) → stands xs wish ≡ false → without wish xs ≡ xs
+  none_left [] f = refl
+  none_left (x ∷ xs) f =
+      let parts = or_parts (same_wish x wish) (stands xs wish) f in
+      let rest = none_left xs parts.1 in
+      rw (parts.0, rest) refl
 
-  pub rest_skips : same_wish (get_or ys i d) wish ≡ true → zs ≡ ys → m ≡ k → FiltersInPlace (λ x. not (same_wish x wish)) xs zs m (i + 1)
-  rest_skips t written more =
-      subst₂ (λ (us : List Wish) (n : ℕ). FiltersInPlace (λ x. not (same_wish x wish)) xs us n (i + 1)) (sym written) (sym more)
-      (FiltersInPlace-more_no so_far h (not_from_true (same_wish (get_or ys i d) wish) t) read)
+  absent : (xs : List Wish) → length xs ≤ position_or_len is_it xs → stands xs wish ≡ false
+  absent [] l = refl
+  absent (x ∷ xs) l = go (cases_Bool (same_wish x wish)) (absent xs)
+    where
+      go : (same_wish x wish ≡ true) ⊎ (same_wish x wish ≡ false) → (length xs ≤ position_or_len is_it xs → stands xs wish ≡ false) → stands (x ∷ xs) wish ≡ false
+      go (inl t) rest = absurd (omega (arith, rw t at l))
+      go (inr f) rest = rw f (rest (omega (arith, rw f at l)))
+
+  present : (xs : List Wish) → distinct xs ≡ true → position_or_len is_it xs < length xs → remove xs (position_or_len is_it xs) ≡ without wish xs
+  present [] once l = absurd (omega arith)
+  present (x ∷ xs) once l = go (and_parts (not (stands xs x)) (distinct xs) once) (cases_Bool (same_wish x wish)) (present xs)
+    where
+      go : (not (stands xs x) ≡ true) × (distinct xs ≡ true) → (same_wish x wish ≡ true) ⊎ (same_wish x wish ≡ false)
+          → (distinct xs ≡ true → position_or_len is_it xs < length xs → remove xs (position_or_len is_it xs) ≡ without wish xs)
+          → remove (x ∷ xs) (position_or_len is_it (x ∷ xs)) ≡ without wish (x ∷ xs)
+      go once (inl t) rest =
+          let none = subst (λ (y : Wish). stands xs y ≡ false) ((same_decides x wish).0 t) (not-true (stands xs x) once.0) in
+          rw t (sym (none_left xs none))
+      go once (inr f) rest = let k = rest once.1 (omega (arith, rw f at l)) in
+          let next : 1 + position_or_len is_it xs ≡ suc (position_or_len is_it xs) = omega arith in
+          rw (f, next) (ap (λ (ys : List Wish). x ∷ ys) k)
+
+  -- what is told where it is looked for
+  module _ (xs : List Wish) (place : Option ℕ) (is : place ≡ position is_it xs) (answer : Result ℕ Refusal) (told : answer ≡ ok_or place WishAbsent) where
+    abbrev at : ℕ
+    at = position_or_len is_it xs
+
+    pub refused : (why : Refusal) → answer ≡ Err why → Err why ≡ striking xs wish
+    refused why e = go (cases_lt at (length xs))
+      where
+        go : (at < length xs) ⊎ (length xs ≤ at) → Err why ≡ striking xs wish
+        go (inl l) = let here = rw (is, lt-ltb at (length xs) l) at told in cc
+        go (inr l) = let none = rw (is, le-ltb at (length xs) l) at told in rw (absent xs l) cc
+
+    pub struck : (i : ℕ) (taken : Option Wish) (ys : List Wish) → answer ≡ Ok i → distinct xs ≡ true → taken ≡ slice_get xs i → OnSome taken (ys ≡ remove xs i) → ys ≡ without wish xs
+    struck i taken ys e once got gone = go (cases_lt at (length xs))
+      where
+        go : (at < length xs) ⊎ (length xs ≤ at) → ys ≡ without wish xs
+        go (inl l) =
+            let here = rw (is, lt-ltb at (length xs) l) at told in
+            let same : i ≡ at = cc in
+            let some = rw (got, same, slice_get-get_or xs at wish l) at gone in
+            some ∙ present xs once l
+        go (inr l) = let none = rw (is, le-ltb at (length xs) l) at told in absurd cc

@@ -1,5 +1,5 @@
 -- The wishes that stand, and how they change. Assumes nothing.
-use Rattle.std.specs.Prelude.{◌≡◌, ℕ, cond, List, [], ◌∷◌, length, take, Ok, Err, Result, nat_lt, refl}
+use Rattle.std.specs.Prelude.{◌≡◌, ℕ, cond, List, [], ◌∷◌, length, Ok, Err, Result, nat_lt, refl}
 use Rattle.theory.specs.declared.refusal.Refusal.{Refusal}
 use Rattle.theory.specs.declared.refusal.Refusal.TheVariants.{WishForm, WishStands, WishesFull, WishAbsent}
 use Rattle.theory.specs.declared.wish.Wish.{Wish}
@@ -10,7 +10,7 @@ use Rattle.wishes.specs.Lists.{stands}
 
 -- the wishes that stand, in the order in which they came
 abbrev pub wishes_in : Standing → List Wish
-wishes_in standing = take standing.count standing.list
+wishes_in standing = standing.wishes.items
 
 -- What adding a wish answers, where there are n factors and the wishes xs stand. Is it formed? Is it not standing yet? Do
 -- fewer than twelve stand?

@@ -1,35 +1,16 @@
 //! No wish, one more wish, one wish less.
 
-ghost use Rattle.std.specs.Prelude.{◌≡◌, ◌≤◌, [], ◌∷◌, ◌++◌, length, take};
+ghost use Rattle.std.specs.Prelude.{◌≡◌, [], ◌∷◌, ◌++◌};
 ghost use Rattle.opening.specs.Shapes.{factors_of};
 ghost use Rattle.wishes.specs.Lists.{without};
 ghost use Rattle.wishes.specs.Standings.{wishes_in, adding, striking, Changed};
 
-use super::{LIMIT, Standing};
+use super::Standing;
 use crate::forming::is_formed;
+use few::Few;
 use opening::Shape;
 use theory::refusal::Refusal;
 use theory::wish::Wish;
-
-/// The first `count` wishes without this one, in their order, at the start of a list, and how many
-/// they are.
-fn rest(list: [Wish; LIMIT], count: usize, wish: Wish) -> ([Wish; LIMIT], usize)
-    requires few { count ≤ 12 }
-    requires long { length list ≡ 12 }
-    ensures few { result.1 ≤ 12 }
-    ensures long { length result.0 ≡ 12 }
-    ensures wishes { take result.1 result.0 ≡ without wish (take count list) }
-{
-    let mut others = list;
-    let mut size = 0;
-    for i in 0..count {
-        if others[i] != wish {
-            others[size] = others[i];
-            size += 1;
-        }
-    }
-    (others, size)
-}
 
 impl Standing {
     /// No wish stands.
@@ -39,8 +20,7 @@ impl Standing {
     {
         Standing {
             shape,
-            list: [Wish::Least(3); LIMIT],
-            count: 0,
+            wishes: Few::new(Wish::Least(3)),
         }
     }
 
@@ -56,12 +36,7 @@ impl Standing {
         if self.holds(wish) {
             return Err(Refusal::WishStands);
         }
-        if self.count >= LIMIT {
-            return Err(Refusal::WishesFull);
-        }
-        self.list[self.count] = wish;
-        self.count += 1;
-        Ok(())
+        self.wishes.push(wish).map_err(|_| Refusal::WishesFull)
     }
 
     /// Strikes a wish; those after it move up. Refused, and nothing changed, where it does not stand.
@@ -69,12 +44,9 @@ impl Standing {
         ensures answer { result ≡ striking (wishes_in self.old) wish }
         ensures after { Changed result self.old self.new (without wish (wishes_in self.old)) }
     {
-        if !self.holds(wish) {
-            return Err(Refusal::WishAbsent);
-        }
-        let (list, count) = rest(self.list, self.count, wish);
-        self.list = list;
-        self.count = count;
+        let place = self.wishes().iter().position(|standing| *standing == wish);
+        let index = place.ok_or(Refusal::WishAbsent)?;
+        self.wishes.remove(index);
         Ok(())
     }
 }

@@ -25,7 +25,7 @@ impl Standing {
     pub fn wishes(&self) -> &[Wish]
         ensures { result.now ≡ wishes_in self.now }
     {
-        &self.list[0..self.count]
+        self.wishes.as_slice()
     }
 
     /// Whether this wish stands.
