@@ -1,5 +1,5 @@
 -- Wishes with two factors exchanged, as the code makes and looks for them.
-use Rattle.std.proofs.Common.{◌≡◌, ℕ, zero, suc, ◌+◌, ◌-◌, ◌*◌, ◌/◌, ◌%◌, ◌^◌, ◌<◌, ◌≤◌, Bool, true, false, cond, ltb, min, max, ◌≢◌, ◌⊎◌, List, length, get_or, All, Decides, sym, refl, ap, ◌∙◌, subst, ap₂, lt_of_lt_of_le, arith, pow_mono, inl, inr}
+use Rattle.std.proofs.Common.{◌≡◌, ℕ, zero, suc, ◌+◌, ◌-◌, ◌*◌, ◌/◌, ◌%◌, ◌^◌, ◌<◌, ◌≤◌, Bool, true, false, cond, ltb, min, max, ◌≢◌, ◌⊎◌, List, length, get_or, Some, All, Decides, sym, refl, ap, ◌∙◌, subst, ap₂, lt_of_lt_of_le, arith, pow_mono, inl, inr}
 use Rattle.std.specs.Int.{bit_at}
 use Rattle.std.proofs.lemmas.Nat.Bits.{bit_at_lowest, bit_at-suc, bit_at-lt, bit_at_or, bit_at_xor, bit_at-pow_same, bit_at-pow_other, same_from_bits}
 use native.Mathlib.Decide.{dec_lt}
@@ -14,7 +14,9 @@ use Rattle.theory.specs.declared.wish.Wish.TheVariants.{Clear, Apart, Fine, Word
 use Rattle.theory.specs.Wishes.{Low, Formed}
 use Rattle.theory.proofs.Homes.{length_homes, home_whole, home_sub}
 use Rattle.opening.specs.declared.Shape.{Shape}
-use Rattle.opening.specs.Shapes.{homes_of, factors_of}
+use Rattle.opening.specs.Shapes.{homes_of, factors_of, home_of}
+use Rattle.opening.proofs.Homes.{home_named, same_layer}
+use Rattle.theory.specs.Strata.{stratum_named}
 use Rattle.exchange.specs.Exchanges.{effect_turned, apart_in_order, wish_turned, wish_over, wish_exchanged, Blind}
 use Rattle.exchange.specs.Outdoing.{Exchangeable}
 use Rattle.wishes.specs.Lists.{stands}
@@ -207,21 +209,23 @@ along ts i (suc d) same = along ts i d (λ k l m. same k l (omega arith)) ∙ sa
 module _ (shape : Shape) (wishes : List Wish) (i j : ℕ) where
   -- both are factors of one layer, the first before the second
   abbrev Alike : Type 0
-  Alike = (i < j) × (j < factors_of shape) × (get_or (homes_of shape) i 0 ≡ get_or (homes_of shape) j 0)
+  Alike = (i < j) × (j < factors_of shape) × (home_of shape i ≡ home_of shape j)
 
   alike_from : Exchangeable (homes_of shape) wishes i j → Alike
   alike_from may =
       let order = may.order in
-      let within : j < factors_of shape = omega (arith, length_homes shape.n1 shape.n2, may.within) in (
-        order,
-        within,
-        along (homes_of shape) i (j - i) (λ k l m. may.alike k l (omega arith)) ∙ ap (λ (k : ℕ). get_or (homes_of shape) k 0) (omega arith),
-      )
+      let within : j < factors_of shape = omega (arith, length_homes shape.n1 shape.n2, may.within) in
+      let layer : get_or (homes_of shape) i 0 ≡ get_or (homes_of shape) j 0 =
+      along (homes_of shape) i (j - i) (λ k l m. may.alike k l (omega arith)) ∙ ap (λ (k : ℕ). get_or (homes_of shape) k 0) (omega arith) in
+      (order, within, home_named shape i (omega arith) ∙ ap (λ (l : ℕ). Some (stratum_named l)) layer ∙ sym (home_named shape j within))
 
   -- both are whole-plot or both subplot factors, and so are those between them
   between : Alike → (k : ℕ) → i ≤ k → k < j → get_or (homes_of shape) k 0 ≡ get_or (homes_of shape) (suc k) 0
-  between (order, within, same) k l m = go (dec_lt j shape.n1) (dec_lt i shape.n1)
+  between (order, within, homes) k l m = go (dec_lt j shape.n1) (dec_lt i shape.n1)
     where
+      same : get_or (homes_of shape) i 0 ≡ get_or (homes_of shape) j 0
+      same = same_layer shape i j (omega arith) within homes
+
       whole : (x : ℕ) → x < shape.n1 → get_or (homes_of shape) x 0 ≡ 1
       whole x h = home_whole shape.n1 shape.n2 x h
 
@@ -230,7 +234,7 @@ module _ (shape : Shape) (wishes : List Wish) (i j : ℕ) where
 
       go : Dec (j < shape.n1) → Dec (i < shape.n1) → get_or (homes_of shape) k 0 ≡ get_or (homes_of shape) (suc k) 0
       go (yes h) q = whole k (omega arith) ∙ sym (whole (suc k) (omega arith))
-      go (no h) (yes g) = absurd (omega (arith, whole i g, sub j (omega arith) within))
+      go (no h) (yes g) = absurd (omega (arith, same, whole i g, sub j (omega arith) within))
       go (no h) (no g) = sub k (omega arith) (omega arith) ∙ sym (sub (suc k) (omega arith) (omega arith))
 
   -- a wish with the two exchanged stands

@@ -10,7 +10,7 @@ use theory::refusal::Refusal;
 use theory::wish::Wish;
 
 /// A kind of wish, by its number.
-#[derive(Clone, Copy, Debug, PartialEq, Eq)]
+#[derive(Clone, Copy, Debug, PartialEq, Eq, Hash)]
 pub enum Kind {
     Clear = 1,
     Apart = 2,
@@ -37,7 +37,7 @@ impl TryFrom<u16> for Kind {
 }
 
 /// The numbers that name a wish: its kind, and one or two more. The last is 0 except for apart.
-#[derive(Clone, Copy, Debug, PartialEq, Eq)]
+#[derive(Clone, Copy, Debug, PartialEq, Eq, Hash)]
 pub struct WishNumbers {
     pub kind: u16,
     pub e: u16,

@@ -30,7 +30,8 @@ returns-in_err-index-clause-answer c =
 pub invariant_of-self : goal.invariant_of-self
 invariant_of-self c =
     let old = c.args.self.now in
-    let is = left c (place_is (goal.at.invariant_of-self c).After-position-place) in
+    let at = goal.at.invariant_of-self c in
+    let is = left at.After-remove (place_is at.After-position-place) in
     record {
       formed = rw is (formed_kept (λ x. not (same_wish x c.args.wish)) (factors_of old.shape) (wishes_in old) old.formed);
       once = rw is (distinct_kept (λ x. not (same_wish x c.args.wish)) (wishes_in old) old.once);
