@@ -1,8 +1,7 @@
 -- Keys that fail no standing wish, and what is kept of them.
-use Rattle.std.proofs.Common.{◌≡◌, ℕ, Bool, true, false, cond, T, ◌↔◌, List, [], ◌∷◌, ◌++◌, length, take, Some, None, MatchBool, Option, sym, refl, ap, ◌∙◌, subst, subst₂, inl, inr, append-nil, arith, length-append}
+use Rattle.std.proofs.Common.{◌≡◌, ℕ, Bool, true, false, cond, T, ◌↔◌, List, [], ◌∷◌, ◌++◌, length, take, All, Some, None, MatchBool, MatchOption, Option, sym, refl, ap, ◌∙◌, subst, subst₂, inl, inr, append-nil, arith, length-append}
 use lib.Seq.{take-append_seam}
-use Rattle.std.specs.List.{AllByRecursion}
-use Rattle.std.proofs.ByRecursion.{all-has, All-weaker}
+use Rattle.std.proofs.lemmas.List.Elements.{All-weaker}
 use Rattle.std.proofs.lemmas.Bool.Decides.{when_true, when_false}
 use Rattle.theory.specs.declared.tally.Tally.{Tally}
 use Rattle.theory.specs.declared.wish.Wish.{Wish}
@@ -33,9 +32,9 @@ use Rattle.finding.proofs.Judging.{leader_is_best, none_listed, keeps_on}
 
 -- no key passes that begins with columns that fail a wish
 begins_fails : (ws cs : List ℕ) (wishes : List Wish) → SomeFails ws cs wishes → (key : List ℕ) → Begins cs key → PassesAll ws wishes key → ⊥
-begins_fails ws cs wishes (wish, has, fails) key (more, e) pass =
+begins_fails ws cs wishes (k, wish, within, is, fails) key (more, e) pass =
     fails_for_all ws cs wish fails key (ap (take (length cs)) e ∙ take-append_seam cs more)
-    (all-has (Passes ws key) wishes wish pass has (formed_more (omega (arith, ap length e, length-append cs more)) wish fails.0))
+    (subst (Passes ws key) is (pass k wish within) (formed_more (omega (arith, ap length e, length-append cs more)) wish fails.0))
 
 holds : (b : Bool) → T b → b ≡ true
 holds true t = refl
@@ -43,7 +42,7 @@ holds false t = absurd t
 
 -- the standing wishes are tested on columns; the judge has had the same since it began
 module _ (counts : Counts) (first now : Standing) (same : now ≡ first) (r : Bool)
-    (test : MatchBool r (SomeFails (layers_of counts.shape) (columns_in counts) (wishes_in now)) (AllByRecursion (Passes (layers_of counts.shape) (columns_in counts)) (wishes_in now))) where
+    (test : MatchBool r (SomeFails (layers_of counts.shape) (columns_in counts) (wishes_in now)) (All (Passes (layers_of counts.shape) (columns_in counts)) (wishes_in now))) where
   -- they fail one: so does each key that begins with them
   none_passes : r ≡ true → (key : List ℕ) → Begins (columns_in counts) key → PassesAll (layers_of counts.shape) (wishes_in first) key → ⊥
   none_passes t key begin =
@@ -89,7 +88,7 @@ sought shape wishes formed key = (
   λ h. (h.0, All-weaker (Meets (layers_of shape) key) (Passes (layers_of shape) key) (λ _ met _. met) wishes h.1),
   λ h.
       let size : length key ≡ factors_of shape = h.0.sound.size ∙ length_homes shape.n1 shape.n2 in
-      (h.0, none_fails_met (layers_of shape) key wishes (subst (λ (n : ℕ). AllByRecursion (Formed n) wishes) (sym size) ((all_formed_lem (factors_of shape) wishes).0 formed)) h.1),
+      (h.0, none_fails_met (layers_of shape) key wishes (subst (λ (n : ℕ). All (Formed n) wishes) (sym size) ((all_formed_lem (factors_of shape) wishes).0 formed)) h.1),
 )
 
 -- ---- the end of the walk
@@ -109,3 +108,10 @@ module _ (standing : Standing) {S : Type 0} (score : Tally → S) (ranks : S →
   -- of all standard keys of the shape that the code read
   pub found : (read : Shape) → read ≡ standing.shape → (best : Option (Kept S)) → KeepsIn read best → Finding (λ kept. columns_in kept.counts) Sought (by_tally standing.shape score ranks) best
   found read same best keeps = kept_best best (subst (λ (shape : Shape). KeepsIn shape best) same keeps)
+
+  -- and its columns, as they are taken of what is kept
+  pub found_columns : (read : Shape) → read ≡ standing.shape → (best : Option (Kept S)) → KeepsIn read best
+      → (Told : Kept S → Type 0) (columns : Option Counts) → MatchOption best (columns ≡ None) Told → ((kept : Kept S) → Told kept → columns ≡ Some kept.counts)
+      → Finding columns_in Sought (by_tally standing.shape score ranks) columns
+  found_columns read same None keeps Told columns none told = rw none (found read same None keeps)
+  found_columns read same (Some kept) keeps Told columns some told = rw (told kept some) (found read same (Some kept) keeps)

@@ -1,7 +1,7 @@
 -- What is best of the standard keys is best of all sound keys; and what stays best with one wish more.
-use Rattle.std.proofs.Common.{◌≡◌, ℕ, true, ◌↔◌, List, [], ◌∷◌, ◌++◌, length, IfSome, Some, None, Option, sym, subst}
-use Rattle.std.specs.List.{AllByRecursion}
-use Rattle.std.proofs.ByRecursion.{All-push}
+use Rattle.std.proofs.Common.{◌≡◌, ℕ, true, ◌↔◌, List, [], ◌∷◌, ◌++◌, length, get_or, All, IfSome, Some, None, Option, sym, subst, ◌<◌, arith, length-append}
+use Rattle.std.proofs.lemmas.List.Elements.{All-push}
+use Rattle.std.proofs.lemmas.List.{get_or_append_left}
 use Rattle.theory.specs.declared.tally.Tally.{Tally}
 use Rattle.theory.specs.declared.wish.Wish.{Wish}
 use Rattle.theory.specs.Keys.{Sound}
@@ -24,9 +24,8 @@ use Rattle.finding.specs.Best.{by_tally, FirstBest, Finding, MeetsAll, Wished, B
 
 -- wishes that one key meets, where the other meets each formed wish that it meets
 all_met : (ws : List ℕ) (n : ℕ) (cs ds : List ℕ) → ((wish : Wish) → Formed n wish → Meets ws cs wish ↔ Meets ws ds wish)
-    → (wishes : List Wish) → AllByRecursion (Formed n) wishes → MeetsAll ws cs wishes → MeetsAll ws ds wishes
-all_met ws n cs ds alike [] formed met = tt
-all_met ws n cs ds alike (wish ∷ wishes) formed met = ((alike wish formed.0).0 met.0, all_met ws n cs ds alike wishes formed.1 met.1)
+    → (wishes : List Wish) → All (Formed n) wishes → MeetsAll ws cs wishes → MeetsAll ws ds wishes
+all_met ws n cs ds alike wishes formed met k d h = (alike (get_or wishes k d) (formed k d h)).0 (met k d h)
 
 module _ (shape : Shape) (wishes : List Wish) (formed : all_formed (factors_of shape) wishes ≡ true) where
   -- a sound key that meets the wishes has a standard twin, which meets them too and has the same tally
@@ -35,7 +34,7 @@ module _ (shape : Shape) (wishes : List Wish) (formed : all_formed (factors_of s
   wished_twin key sound met =
       let found = twin_fact (layers_of shape) (homes_of shape) key sound in
       let alike = alike_fact (layers_of shape) (homes_of shape) key found.0 sound found.1.sound found.2 in
-      let all = subst (λ (n : ℕ). AllByRecursion (Formed n) wishes) (sym (length_homes shape.n1 shape.n2)) ((all_formed_lem (factors_of shape) wishes).0 formed) in
+      let all = subst (λ (n : ℕ). All (Formed n) wishes) (sym (length_homes shape.n1 shape.n2)) ((all_formed_lem (factors_of shape) wishes).0 formed) in
       (found.0, (found.1, all_met (layers_of shape) (length (homes_of shape)) key found.0 alike.wishes wishes all met), sym alike.tallies)
 
   -- where no standard key meets the wishes, no sound key does
@@ -57,14 +56,12 @@ module _ (shape : Shape) (wishes : List Wish) (formed : all_formed (factors_of s
     finding_sound columns (Some x) first = first_is_best (columns x) first
 
 -- ---- one wish more
-all_front : {X : Type 0} (P : X → Type 0) (xs ys : List X) → AllByRecursion P (xs ++ ys) → AllByRecursion P xs
-all_front P [] ys h = tt
-all_front P (x ∷ xs) ys h = (h.0, all_front P xs ys h.1)
-
 module _ (shape : Shape) (wishes : List Wish) (wish : Wish) where
   -- what meets them all meets those without the last
   fewer_met : (key : List ℕ) → MeetsAll (layers_of shape) key (wishes ++ wish ∷ []) → MeetsAll (layers_of shape) key wishes
-  fewer_met key = all_front (Meets (layers_of shape) key) wishes (wish ∷ [])
+  fewer_met key met k d h =
+      let more : k < length (wishes ++ wish ∷ []) = omega (arith, length-append wishes (wish ∷ [])) in
+      subst (Meets (layers_of shape) key) (get_or_append_left wishes (wish ∷ []) d k h) (met k d more)
 
   pub none_fewer : NoSound shape wishes → NoSound shape (wishes ++ wish ∷ [])
   none_fewer none key sound met = none key sound (fewer_met key met)

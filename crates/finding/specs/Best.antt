@@ -1,7 +1,7 @@
 -- The first best key, keys that meet wishes, and the best of all sound keys that do. Assumes nothing.
-use Rattle.std.specs.Prelude.{◌≡◌, ℕ, List, [], ◌∷◌, Option, MatchOption, refl}
+use Rattle.std.specs.Prelude.{◌≡◌, ℕ, List, [], ◌∷◌, Option, MatchOption, All, refl}
+use Rattle.std.proofs.lemmas.List.Elements.{All-cons, All-nil}
 use Rattle.std.specs.Int.Count.{ones, ones_in}
-use Rattle.std.specs.List.{AllByRecursion}
 use Rattle.theory.specs.declared.tally.Tally.{Tally}
 use Rattle.theory.specs.declared.wish.Wish.{Wish}
 use Rattle.theory.specs.declared.wish.Wish.TheVariants.{Fine, Word}
@@ -35,7 +35,7 @@ Finding columns Kind ranks r = MatchOption r ((key : List ℕ) → Kind key → 
 
 -- the key meets every wish of the list, where ws has how many unit factors each layer has
 abbrev pub MeetsAll : List ℕ → List ℕ → List Wish → Type 0
-MeetsAll ws key wishes = AllByRecursion (Meets ws key) wishes
+MeetsAll ws key wishes = All (Meets ws key) wishes
 
 -- the standard keys of a shape that meet the wishes
 abbrev pub Wished : Shape → List Wish → List ℕ → Type 0
@@ -64,4 +64,5 @@ example_level = refl
 
 -- the first of them meets the wishes that Apq be a defining word and that r be fine
 example_meets : MeetsAll (2 ∷ 1 ∷ []) (1 ∷ 4 ∷ 5 ∷ 6 ∷ []) (Word 7 ∷ Fine 8 ∷ [])
-example_meets = (refl, (refl, tt))
+example_meets =
+    All-cons (Meets (2 ∷ 1 ∷ []) (1 ∷ 4 ∷ 5 ∷ 6 ∷ [])) (Word 7) (Fine 8 ∷ []) refl (All-cons (Meets (2 ∷ 1 ∷ []) (1 ∷ 4 ∷ 5 ∷ 6 ∷ [])) (Fine 8) [] refl (All-nil (Meets (2 ∷ 1 ∷ []) (1 ∷ 4 ∷ 5 ∷ 6 ∷ []))))

@@ -1,6 +1,6 @@
 -- What is kept of keys that come one by one: the one that leads those of a kind. Assumes nothing.
-use Rattle.std.specs.Prelude.{◌≡◌, ℕ, Bool, true, false, List, [], ◌∷◌, ◌++◌, Some, None, Option, refl}
-use Rattle.std.specs.List.{AllByRecursion}
+use Rattle.std.specs.Prelude.{◌≡◌, ℕ, Bool, true, false, List, [], ◌∷◌, ◌++◌, Some, None, Option, All, refl}
+use Rattle.std.proofs.lemmas.List.Elements.{All-cons, All-nil}
 use Rattle.theory.specs.declared.tally.Tally.{Tally}
 use Rattle.theory.specs.declared.wish.Wish.{Wish}
 use Rattle.theory.specs.declared.wish.Wish.TheVariants.{Word}
@@ -44,7 +44,7 @@ Keeps Kind score ranks keys (Some kept) = Leads Kind (by_score score ranks) keys
 
 -- the key meets each wish that is one of its factors
 abbrev pub PassesAll : List ℕ → List Wish → List ℕ → Type 0
-PassesAll ws wishes key = AllByRecursion (Passes ws key) wishes
+PassesAll ws wishes key = All (Passes ws key) wishes
 
 -- what is kept of the keys of a shape that pass, by the scores of their tallies
 abbrev pub KeepsPassing : {S : Type 0} → Shape → List Wish → (Tally → S) → (S → S → Verdict) → List (List ℕ) → Option (Kept S) → Type 0
@@ -52,4 +52,5 @@ KeepsPassing shape wishes score ranks keys best = Keeps (PassesAll (layers_of sh
 
 -- Apq, number 7, is a defining word of (1, 4, 5, 6), as is wished
 example_passes : PassesAll (2 ∷ 1 ∷ []) (Word 7 ∷ []) (1 ∷ 4 ∷ 5 ∷ 6 ∷ [])
-example_passes = (λ formed. refl, tt)
+example_passes =
+    All-cons (Passes (2 ∷ 1 ∷ []) (1 ∷ 4 ∷ 5 ∷ 6 ∷ [])) (Word 7) [] (λ formed. refl) (All-nil (Passes (2 ∷ 1 ∷ []) (1 ∷ 4 ∷ 5 ∷ 6 ∷ [])))

@@ -33,13 +33,9 @@ impl<'a, R: Ranking> Judge<'a, R> {
     fn is_beaten_by(&self, score: &R::Score) -> bool
         ensures { result ≡ beats (R.ranked self.now.ranking.now) self.now.best score.now }
     {
-        match &self.best {
-            Some(best) => match self.ranking.compare(score, &best.score) {
-                Verdict::Better => true,
-                _ => false,
-            },
-            None => true,
-        }
+        self.best.as_ref().is_none_or(|kept| {
+            self.ranking.compare(score, &kept.score) == Verdict::Better
+        })
     }
 }
 
@@ -79,8 +75,5 @@ pub fn first_best_columns<'a, R: Ranking>(ranking: &'a R, standing: &'a Standing
         best: None,
     };
     visit_standard_keys(standing.shape(), &mut judge);
-    match judge.best {
-        Some(kept) => Some(kept.counts),
-        None => None,
-    }
+    judge.best.map(|kept| kept.counts)
 }
