@@ -1,9 +1,11 @@
 -- What adding, striking and finding leave.
-use Rattle.std.proofs.Common.{◌≡◌, ℕ, true, List, [], ◌∷◌, ◌++◌, length, Some, None, Ok, Err, Option, Result, sym, refl, ap, ◌∙◌, subst, subst₂}
+use Rattle.std.proofs.Common.{◌≡◌, ℕ, true, List, [], ◌∷◌, ◌++◌, length, IfSome, Some, None, Ok, Err, Option, Result, sym, refl, ap, ◌∙◌, subst, subst₂}
+use Rattle.std.specs.Option.{ok_or}
+use Rattle.std.specs.Result.{result_or}
 use mathlib.Core.Path.{PathP, to_path_p}
 use base.Stored.{Coded-set, coded_ℕ}
 use Rattle.theory.specs.declared.refusal.Refusal.{Refusal}
-use Rattle.theory.specs.declared.refusal.Refusal.TheVariants.{WishAbsent}
+use Rattle.theory.specs.declared.refusal.Refusal.TheVariants.{WishAbsent, NoKey}
 use Rattle.theory.specs.declared.tally.Tally.{Tally}
 use Rattle.theory.specs.declared.wish.Wish.{Wish}
 use Rattle.theory.specs.Wishes.{Formed, Meets, formed}
@@ -23,7 +25,8 @@ use Rattle.wishes.specs.Tests.{Fails, Passes}
 use Rattle.planner.specs.declared.effect.Effect.{Effect}
 use Rattle.planner.specs.declared.effect.Effect.TheVariants.{Stays, Falls}
 use Rattle.planner.specs.declared.planner.Planner.{Planner}
-use Rattle.planner.specs.Entries.{Entry, add, strike}
+use Rattle.finding.specs.Best.{Finding, FindingSound, Wished}
+use Rattle.planner.specs.Entries.{Entry, add, strike, find}
 use Rattle.planner.specs.Plans.{factors_or}
 use Rattle.planner.specs.Rules.{Ruled, Added, AddedTo, AddedBy, strike_answer, struck_by, wish_list, struck_from, wishes_after, plan_after}
 use Rattle.planner.specs.Histories.{ranks_of, Goes}
@@ -63,6 +66,23 @@ module _ {R S : Type 0} (scored : R → Tally → S) (ranked : R → S → S →
         plan = plan-is ∙ sym plan;
         untouched = λ _. same_planner after before same standing-is plan-is;
       })
+
+  -- ---- finding
+  pub not_found : (r : Result Key Refusal) → r ≡ Err NoKey → (o : Option Key) → o ≡ None → FindingSound columns_of shape wishes (ranks_of scored ranked before) o
+      → after.standing ≡ before.standing → after.plan ≡ before.plan → Goes scored ranked before (find r) after
+  not_found r told o none nothing standing-is plan-is =
+      subst (λ (a : Result Key Refusal). Goes scored ranked before (find a) after) (sym told)
+      (unchanged (find (Err NoKey)) (refl, subst (FindingSound columns_of shape wishes (ranks_of scored ranked before)) none nothing) refl refl standing-is plan-is)
+
+  pub found : (key : Key) (o : Option Key) → o ≡ Some key → IfSome o (λ k. k.shape ≡ shape)
+      → Finding columns_of (Wished shape wishes) (ranks_of scored ranked before) o
+      → after.standing ≡ before.standing → after.plan ≡ Some key → Goes scored ranked before (find (Ok key)) after
+  found key o one shape-is best standing-is plan-is =
+      goes scored ranked before after (find (Ok key)) (
+        subst (λ (a : Option Key). IfSome a (λ k. k.shape ≡ shape)) one shape-is,
+        subst (Finding columns_of (Wished shape wishes) (ranks_of scored ranked before)) one best,
+      )
+      (record { ranking = same; shape = ap (λ s. s.shape) standing-is; wishes = ap wishes_in standing-is; plan = plan-is; untouched = λ never. absurd never })
 
   module _ (kind e f : ℕ) where
     -- ---- adding
@@ -125,9 +145,11 @@ module _ {R S : Type 0} (scored : R → Tally → S) (ranked : R → S → S →
           })
 
     -- what is not formed does not stand
-    pub none_struck : (why : Refusal) → forming n kind e f ≡ Err why → after.standing ≡ before.standing → after.plan ≡ before.plan → Goes scored ranked before (strike kind e f (Err WishAbsent)) after
-    none_struck why is standing-is plan-is =
-        unchanged (strike kind e f (Err WishAbsent)) (sym (ap (strike_answer wishes before.plan) is)) refl refl standing-is plan-is
+    pub none_struck : (why : Refusal) (r : Result Effect Refusal) → forming n kind e f ≡ Err why → r ≡ Err WishAbsent
+        → after.standing ≡ before.standing → after.plan ≡ before.plan → Goes scored ranked before (strike kind e f r) after
+    none_struck why r is told standing-is plan-is =
+        subst (λ (a : Result Effect Refusal). Goes scored ranked before (strike kind e f a) after) (sym told)
+        (unchanged (strike kind e f (Err WishAbsent)) (sym (ap (strike_answer wishes before.plan) is)) refl refl standing-is plan-is)
 
 -- ---- a wish tested on the standing plan
 module _ {R : Type 0} (p : Planner R) (plan : Key) (stands : p.plan ≡ Some plan) (wish : Wish) (of : formed (factors_of p.standing.shape) wish ≡ true)
@@ -146,3 +168,21 @@ module _ {R : Type 0} (p : Planner R) (plan : Key) (stands : p.plan ≡ Some pla
 
   pub plan_falls : Fails (layers_of counts.shape) (columns_in counts) wish → AddedBy p.plan wish (Ok Falls)
   plan_falls fails = subst (λ (o : Option Key). AddedBy o wish (Ok Falls)) (sym stands) (λ meets. fails.1 (subst₂ Meeting (sym Shape-is) (sym columns-are) meets))
+
+-- ---- what forming a wish to be struck gave
+pub formed_wish : {A : Type 0} (r : Result A Refusal) (x : A) → result_or {D = Refusal} r (Err WishAbsent) ≡ Ok x → r ≡ Ok x
+formed_wish (Ok y) x told = cc
+formed_wish (Err why) x told = cc
+
+pub no_wish : {A : Type 0} (r : Result A Refusal) (last : Refusal) → result_or {D = Refusal} r (Err WishAbsent) ≡ Err last → ((why : Refusal) × (r ≡ Err why)) × (last ≡ WishAbsent)
+no_wish (Ok x) last told = cc
+no_wish (Err why) last told = ((why, refl), cc)
+
+-- ---- what finding found
+pub none_found : {A : Type 0} (o : Option A) (why : Refusal) → ok_or o NoKey ≡ Err why → (o ≡ None) × (why ≡ NoKey)
+none_found None why told = (refl, cc)
+none_found (Some x) why told = cc
+
+pub one_found : {A : Type 0} (o : Option A) (x : A) → ok_or o NoKey ≡ Ok x → o ≡ Some x
+one_found None x told = cc
+one_found (Some y) x told = cc

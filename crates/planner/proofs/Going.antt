@@ -1,5 +1,5 @@
 -- A call that is answered by the rules and leaves what they say goes on from every history.
-use Rattle.std.proofs.Common.{List, ◌∷◌, Option, sym, refl, ap, ◌∙◌, subst}
+use Rattle.std.proofs.Common.{◌≡◌, List, ◌∷◌, Some, Option, sym, refl, ap, ◌∙◌, subst}
 use Rattle.theory.specs.declared.tally.Tally.{Tally}
 use Rattle.theory.specs.declared.wish.Wish.{Wish}
 use Rattle.opening.specs.declared.Shape.{Shape}
@@ -46,3 +46,7 @@ module _ {R S : Type 0} (scored : R → Tally → S) (ranked : R → S → S →
 -- a question changes nothing
 pub asked : {R S : Type 0} (scored : R → Tally → S) (ranked : R → S → S → Verdict) (p : Planner R) (question : Asked) → Answered p.plan question → Goes scored ranked p (ask question) p
 asked scored ranked p question answered = goes scored ranked p p (ask question) answered (record { ranking = refl; shape = refl; wishes = refl; plan = refl; untouched = λ _. refl })
+
+-- a question of a standing plan, which answers it
+pub asked_of : {R S : Type 0} (scored : R → Tally → S) (ranked : R → S → S → Verdict) (p : Planner R) (question : Asked) (plan : Key) → p.plan ≡ Some plan → Answered (Some plan) question → Goes scored ranked p (ask question) p
+asked_of scored ranked p question plan stands answered = asked scored ranked p question (subst (λ (o : Option Key). Answered o question) (sym stands) answered)

@@ -4,14 +4,14 @@ ghost use Rattle.std.specs.Prelude.{◌≡◌};
 ghost use Rattle.planner.specs.Effects.{effect_number};
 
 /// What a granted adding or striking says of the plan.
-#[derive(Clone, Copy, PartialEq)]
+#[derive(Clone, Copy, Debug, PartialEq, Eq, Hash)]
 pub enum Effect {
     /// No plan stood.
-    NoPlan,
+    NoPlan = 0,
     /// The plan meets the wish and stays.
-    Stays,
+    Stays = 1,
     /// The plan falls.
-    Falls,
+    Falls = 2,
 }
 
 impl Effect {
@@ -19,10 +19,6 @@ impl Effect {
     pub fn number(self) -> u8
         ensures { result ≡ effect_number self }
     {
-        match self {
-            Effect::NoPlan => 0,
-            Effect::Stays => 1,
-            Effect::Falls => 2,
-        }
+        self as u8
     }
 }

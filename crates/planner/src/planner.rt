@@ -13,7 +13,7 @@ mod beginning;
 mod changing;
 
 /// A trial that was opened with one ranking, the wishes that stand, and the plan if one stands.
-#[derive(Drop)]
+#[derive(Copy, Drop)]
 pub struct Planner<R> {
     ranking: R,
     standing: Standing,
@@ -21,6 +21,7 @@ pub struct Planner<R> {
     ghost fits: { factors_or (factors_of standing.shape) plan ≡ factors_of standing.shape },
 }
 
+// By hand, since a struct with a ghost field derives no `Clone` here.
 impl<R: Copy> Clone for Planner<R> {
     ghost is_clone = { λ planner copy. copy ≡ planner };
 
@@ -30,5 +31,3 @@ impl<R: Copy> Clone for Planner<R> {
         Ok(*self)
     }
 }
-
-impl<R: Copy> Copy for Planner<R> {}

@@ -34,16 +34,11 @@ impl<R: Ranking> Planner<R> {
     pub fn strike(&mut self, kind: u16, e: u16, f: u16) -> Result<Effect, Refusal>
         ensures { Goes R.scored R.ranked self.old (strike kind e f result) self.new }
     {
-        let Ok(wish) = form(self.standing.shape(), kind, e, f) else {
-            return Err(Refusal::WishAbsent);
-        };
+        let wish = form(self.standing.shape(), kind, e, f).or(Err(Refusal::WishAbsent))?;
         self.standing.strike(wish)?;
-        match self.plan {
+        match self.plan.take() {
             None => Ok(Effect::NoPlan),
-            Some(_) => {
-                self.plan = None;
-                Ok(Effect::Falls)
-            }
+            Some(_) => Ok(Effect::Falls),
         }
     }
 
@@ -51,9 +46,7 @@ impl<R: Ranking> Planner<R> {
     pub fn find(&mut self) -> Result<Key, Refusal>
         ensures { Goes R.scored R.ranked self.old (find result) self.new }
     {
-        let Some(key) = first_best(&self.ranking, &self.standing) else {
-            return Err(Refusal::NoKey);
-        };
+        let key = first_best(&self.ranking, &self.standing).ok_or(Refusal::NoKey)?;
         self.plan = Some(key);
         Ok(key)
     }

@@ -1,17 +1,17 @@
-use Rattle.std.proofs.Common.{Ok, Err, refl}
-use Rattle.theory.specs.declared.refusal.Refusal.TheVariants.{NoKey}
-use Rattle.planner.specs.Entries.{find}
-use Rattle.planner.proofs.Changing.{unchanged}
-use Rattle.planner.proofs.Going.{goes}
+use Rattle.std.proofs.Common.{Err, sym, refl, ap, ◌∙◌}
+use Rattle.std.proofs.lemmas.Result.{err_from_is_err_and}
+use Rattle.planner.proofs.Changing.{not_found, found, none_found, one_found}
 use Rattle.planner.proofs.planner.Planner.find.Goals as goal
 
-pub returns-in_default : goal.returns-in_default
-returns-in_default g c =
-    unchanged g.R.Ranking.scored g.R.Ranking.ranked c.args.self.now _ refl (find (Err NoKey))
-    (refl, c.in_default.ensures.sound) refl refl refl refl
+pub returns-in_err-key : goal.returns-in_err-key
+returns-in_err-key g c =
+    let told = err_from_is_err_and c.from_residual.result c.from_residual.ensures.1 in
+    let none = none_found c.first_best.result c.in_err-key.field-0.0 (sym c.ok_or.ensures.value ∙ c.in_err-key.was) in
+    not_found g.R.Ranking.scored g.R.Ranking.ranked c.args.self.now _ refl c.from_residual.result (told.1 ∙ ap Err (told.2 ∙ none.1))
+    c.first_best.result none.0 c.first_best.ensures.sound refl refl
 
 pub returns : goal.returns
 returns g c =
-    goes g.R.Ranking.scored g.R.Ranking.ranked c.args.self.now _ (find (Ok c.in-Some.key))
-    (c.in-Some.ensures.shape, c.in-Some.ensures.found)
-    (record { ranking = refl; shape = refl; wishes = refl; plan = refl; untouched = λ never. absurd never })
+    found g.R.Ranking.scored g.R.Ranking.ranked c.args.self.now _ refl c.in_ok-key.key c.first_best.result
+    (one_found c.first_best.result c.in_ok-key.key (sym c.ok_or.ensures.value ∙ c.in_ok-key.was))
+    c.first_best.ensures.shape c.first_best.ensures.found refl refl

@@ -1,12 +1,7 @@
-use Rattle.std.proofs.Common.{Option, sym, subst}
-use Rattle.key.specs.declared.Key.{Key}
 use Rattle.planner.specs.Entries as asked
-use Rattle.planner.specs.Rules.{Answered}
-use Rattle.planner.proofs.Going.{asked as goes_on}
+use Rattle.planner.proofs.Going.{asked_of}
 use Rattle.planner.proofs.planner.Planner.key.Goals as goal
 
-pub returns-in-Some : goal.returns-in-Some
-returns-in-Some g c =
-    let question = asked.key c.args.out.now c.key.result c.key.new.out in
-    goes_on g.R.Ranking.scored g.R.Ranking.ranked c.args.self.now question
-    (subst (λ (plan : Option Key). Answered plan question) (sym c.in-Some.is) (c.key.ensures.answer, c.key.ensures.buffer))
+pub returns : goal.returns
+returns g c =
+    asked_of g.R.Ranking.scored g.R.Ranking.ranked c.args.self.now (asked.key c.args.out.now c.key.result c.key.new.out) c.in_ok-standing_plan.field-0.now c.in_ok-standing_plan.ensures (c.key.ensures.answer, c.key.ensures.buffer)

@@ -1,12 +1,8 @@
-use Rattle.std.proofs.Common.{Ok, Option, sym, ap, subst}
-use Rattle.key.specs.declared.Key.{Key}
+use Rattle.std.proofs.Common.{Ok, ap}
 use Rattle.planner.specs.Entries as asked
-use Rattle.planner.specs.Rules.{Answered}
-use Rattle.planner.proofs.Going.{asked as goes_on}
+use Rattle.planner.proofs.Going.{asked_of}
 use Rattle.planner.proofs.planner.Planner.tally.Goals as goal
 
-pub returns-in-Some : goal.returns-in-Some
-returns-in-Some g c =
-    let question = asked.tally (Ok c.tally.result) in
-    goes_on g.R.Ranking.scored g.R.Ranking.ranked c.args.self.now question
-    (subst (λ (plan : Option Key). Answered plan question) (sym c.in-Some.is) (ap Ok c.tally.ensures))
+pub returns : goal.returns
+returns g c =
+    asked_of g.R.Ranking.scored g.R.Ranking.ranked c.args.self.now (asked.tally (Ok c.tally.result)) c.in_ok-standing_plan.field-0.now c.in_ok-standing_plan.ensures (ap Ok c.tally.ensures)
