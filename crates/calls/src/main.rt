@@ -2,11 +2,68 @@
 
 #![tactic(auto)]
 
+use opening::Numbers;
 use planner::effect::Effect;
 use planner::planner::Planner;
 use ranking::aberration::Aberration;
 use std::io;
 use theory::refusal::Refusal;
+use wishes::forming::WishNumbers;
+
+/// A call to a planner.
+#[derive(Clone, Copy)]
+enum Call {
+    /// Opens a trial with w, s, n1 and n2.
+    Open(u16, u16, u16, u16),
+    /// Adds the wish of a kind with two numbers.
+    Add(u16, u16, u16),
+    /// Strikes the wish of a kind with two numbers.
+    Strike(u16, u16, u16),
+    Find,
+}
+
+use Call::{Add, Find, Open, Strike};
+
+const CALLS: [Call; 35] = [
+    // openings at the limits
+    Find,
+    Open(4, 2, 1, 5),
+    Open(2, 1, 1, 1),
+    Open(1, 1, 1, 6),
+    Open(1, 1, 1, 7),
+    Open(1, 1, 2, 1),
+    Find,
+    // wishes that move the plan, until none is left
+    Open(2, 1, 1, 3),
+    Find,
+    Add(1, 3, 0),
+    Find,
+    Add(1, 5, 0),
+    Find,
+    Strike(1, 6, 0),
+    Strike(1, 5, 0),
+    Find,
+    Add(3, 8, 0),
+    Strike(3, 8, 0),
+    // twelve wishes, and no thirteenth
+    Open(2, 1, 1, 3),
+    Add(5, 3, 0),
+    Add(5, 4, 0),
+    Add(5, 5, 0),
+    Add(5, 6, 0),
+    Add(5, 7, 0),
+    Add(5, 8, 0),
+    Add(5, 9, 0),
+    Add(5, 10, 0),
+    Add(3, 2, 0),
+    Add(3, 4, 0),
+    Add(3, 8, 0),
+    Add(5, 3, 0),
+    Add(2, 1, 2),
+    Add(2, 1, 4),
+    Add(2, 4, 1),
+    Add(6, 1, 0),
+];
 
 /// Prints an answer or the refusal.
 fn tell(rt: &impl Print, call: &str, answer: Result<u8, Refusal>) -> io::Result<()> {
@@ -19,41 +76,7 @@ fn tell(rt: &impl Print, call: &str, answer: Result<u8, Refusal>) -> io::Result<
     }
 }
 
-/// Opens a trial and tells the answer.
-fn open(
-    rt: &impl Print,
-    place: &mut Planner<Aberration>,
-    numbers: (u16, u16, u16, u16),
-) -> io::Result<()> {
-    let answer = place.open(numbers.into(), Aberration);
-    tell(rt, "open", answer.map(|()| 0))
-}
-
-/// Adds a wish and tells the answer.
-fn add(
-    rt: &impl Print,
-    place: &mut Planner<Aberration>,
-    kind: u16,
-    e: u16,
-    f: u16,
-) -> io::Result<()> {
-    let answer = place.add(kind, e, f);
-    tell(rt, "add", answer.map(Effect::number))
-}
-
-/// Strikes a wish and tells the answer.
-fn strike(
-    rt: &impl Print,
-    place: &mut Planner<Aberration>,
-    kind: u16,
-    e: u16,
-    f: u16,
-) -> io::Result<()> {
-    let answer = place.strike(kind, e, f);
-    tell(rt, "strike", answer.map(Effect::number))
-}
-
-/// Finds a plan and tells its columns.
+/// Finds a plan and prints its columns.
 fn find(rt: &impl Print, place: &mut Planner<Aberration>) -> io::Result<()> {
     match place.find() {
         Ok(key) => {
@@ -67,51 +90,31 @@ fn find(rt: &impl Print, place: &mut Planner<Aberration>) -> io::Result<()> {
     }
 }
 
-/// Openings at the limits.
-fn openings(rt: &impl Print, place: &mut Planner<Aberration>) -> io::Result<()> {
-    find(rt, place)?;
-    open(rt, place, (4, 2, 1, 5))?;
-    open(rt, place, (2, 1, 1, 1))?;
-    open(rt, place, (1, 1, 1, 6))?;
-    open(rt, place, (1, 1, 1, 7))?;
-    open(rt, place, (1, 1, 2, 1))?;
-    find(rt, place)
-}
-
-/// Wishes that move the plan, until none is left.
-fn moves(rt: &impl Print, place: &mut Planner<Aberration>) -> io::Result<()> {
-    open(rt, place, (2, 1, 1, 3))?;
-    find(rt, place)?;
-    add(rt, place, 1, 3, 0)?;
-    find(rt, place)?;
-    add(rt, place, 1, 5, 0)?;
-    find(rt, place)?;
-    strike(rt, place, 1, 6, 0)?;
-    strike(rt, place, 1, 5, 0)?;
-    find(rt, place)?;
-    add(rt, place, 3, 8, 0)?;
-    strike(rt, place, 3, 8, 0)
-}
-
-/// Twelve wishes stand, and no thirteenth.
-fn many(rt: &impl Print, place: &mut Planner<Aberration>) -> io::Result<()> {
-    open(rt, place, (2, 1, 1, 3))?;
-    for r in 3..=10 {
-        add(rt, place, 5, r, 0)?;
+impl Call {
+    /// Makes the call and prints what it is answered.
+    fn make(self, rt: &impl Print, place: &mut Planner<Aberration>) -> io::Result<()> {
+        match self {
+            Open(w, s, n1, n2) => {
+                let opened = place.open(Numbers { w, s, n1, n2 }, Aberration);
+                tell(rt, "open", opened.map(|()| 0))
+            }
+            Add(kind, e, f) => {
+                let added = place.add(WishNumbers { kind, e, f });
+                tell(rt, "add", added.map(Effect::number))
+            }
+            Strike(kind, e, f) => {
+                let struck = place.strike(WishNumbers { kind, e, f });
+                tell(rt, "strike", struck.map(Effect::number))
+            }
+            Find => find(rt, place),
+        }
     }
-    for e in [2, 4, 8] {
-        add(rt, place, 3, e, 0)?;
-    }
-    add(rt, place, 5, 3, 0)?;
-    add(rt, place, 2, 1, 2)?;
-    add(rt, place, 2, 1, 4)?;
-    add(rt, place, 2, 4, 1)?;
-    add(rt, place, 6, 1, 0)
 }
 
 fn main(rt: HostRuntime) -> io::Result<()> {
     let mut place = Planner::new(Aberration);
-    openings(&rt, &mut place)?;
-    moves(&rt, &mut place)?;
-    many(&rt, &mut place)
+    for call in CALLS {
+        call.make(&rt, &mut place)?;
+    }
+    Ok(())
 }
