@@ -11,6 +11,7 @@ use ranking::penalty::Penalty;
 use ranking::ranking::Ranking;
 use std::io;
 use std::time::Instant;
+use wishes::forming::WishNumbers;
 
 /// Finds a plan and tells the milliseconds that it took.
 fn timed<R: Ranking>(rt: &HostRuntime, place: &mut Planner<R>) -> io::Result<u128> {
@@ -32,7 +33,11 @@ fn measure<R: Ranking + Copy>(
     }
     let Numbers { w, s, n1, n2 } = numbers;
     let without = timed(rt, &mut place)?;
-    let _ = place.add(5, 4, 0);
+    let _ = place.add(WishNumbers {
+        kind: 5,
+        e: 4,
+        f: 0,
+    });
     let with = timed(rt, &mut place)?;
     eprintln!(rt;
         "{name} {w} {s} {n1} {n2}: {without} ms, {with} ms where no word may be shorter than 4"

@@ -10,15 +10,15 @@ use finding::best::first_best;
 use key::Key;
 use ranking::ranking::Ranking;
 use theory::refusal::Refusal;
-use wishes::forming::form;
+use wishes::forming::{WishNumbers, form};
 use wishes::meeting::fails;
 
 impl<R: Ranking> Planner<R> {
-    /// Adds a wish of this kind with these numbers: a plan that meets it stays, another falls.
-    pub fn add(&mut self, kind: u16, e: u16, f: u16) -> Result<Effect, Refusal>
-        ensures { Goes R.scored R.ranked self.old (add kind e f result) self.new }
+    /// Adds the wish with these numbers: a plan that meets it stays, another falls.
+    pub fn add(&mut self, numbers: WishNumbers) -> Result<Effect, Refusal>
+        ensures { Goes R.scored R.ranked self.old (add numbers.kind numbers.e numbers.f result) self.new }
     {
-        let wish = form(self.standing.shape(), kind, e, f)?;
+        let wish = form(self.standing.shape(), numbers)?;
         self.standing.add(wish)?;
         match &self.plan {
             None => Ok(Effect::NoPlan),
@@ -30,11 +30,11 @@ impl<R: Ranking> Planner<R> {
         }
     }
 
-    /// Strikes the wish of this kind with these numbers: a standing plan falls.
-    pub fn strike(&mut self, kind: u16, e: u16, f: u16) -> Result<Effect, Refusal>
-        ensures { Goes R.scored R.ranked self.old (strike kind e f result) self.new }
+    /// Strikes the wish with these numbers: a standing plan falls.
+    pub fn strike(&mut self, numbers: WishNumbers) -> Result<Effect, Refusal>
+        ensures { Goes R.scored R.ranked self.old (strike numbers.kind numbers.e numbers.f result) self.new }
     {
-        let wish = form(self.standing.shape(), kind, e, f).or(Err(Refusal::WishAbsent))?;
+        let wish = form(self.standing.shape(), numbers).or(Err(Refusal::WishAbsent))?;
         self.standing.strike(wish)?;
         match self.plan.take() {
             None => Ok(Effect::NoPlan),
