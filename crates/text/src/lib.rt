@@ -1,6 +1,6 @@
 //! Texts written piece by piece.
 
-#![tactic(auto)]
+#![tactic(auto, unfolding(crate::specs::Texts::written))]
 
 ghost use Rattle.std.specs.Prelude.{◌≡◌, decimal};
 ghost use Rattle.text.specs.Texts.{written};

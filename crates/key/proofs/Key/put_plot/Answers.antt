@@ -1,15 +1,13 @@
-use Rattle.std.proofs.Common.{arith}
-use Rattle.key.specs.Layouts.{row_text}
-use Rattle.key.specs.Questions.{columns_of}
-use Rattle.text.proofs.Pieces.{start, onward_text}
+use Rattle.std.proofs.Common.{ℕ, ◌∙◌, arith, length-append}
+use Rattle.key.specs.Questions.{row_of}
+use Rattle.text.proofs.Laws.{texts_more}
+use Rattle.key.proofs.Rows.{plot_le}
 use Rattle.key.proofs.Key.put_plot.Goals as goal
 
-pub loop-subplot-init : goal.loop-subplot-init
-loop-subplot-init c = (start c.args.out.now c.args.at (omega arith), omega arith)
+pub put_row-requires-clause-room : goal.put_row-requires-clause-room
+put_row-requires-clause-room c =
+    let rows = plot_le c.args.self.now c.args.plot c.loop-subplot.subplot c.requires.plot (omega arith) in
+    rw c.loop-subplot.invariant (omega (arith, length-append {A = ℕ}))
 
 pub loop-subplot-preserved : goal.loop-subplot-preserved
-loop-subplot-preserved c =
-    let key = c.args.self.now in (
-      onward_text (row_text key.shape.w (columns_of key) c.args.plot) c.args.out.now c.args.at _ _ c.loop-subplot.subplot _ _ c.loop-subplot.invariant.0 (omega arith) c.put_row-end.ensures.after c.put_row-end.ensures.value,
-      omega arith,
-    )
+loop-subplot-preserved c = c.put_row.ensures ∙ rw c.loop-subplot.invariant (texts_more (row_of c.args.self.now c.args.plot) c.args.text.now.items c.loop-subplot.subplot)

@@ -1,30 +1,33 @@
-use Rattle.std.proofs.Common.{ℕ, List, [], ◌++◌, codes, ap₂, arith}
-use Rattle.key.specs.Layouts.{place_text, signs_text}
-use Rattle.key.specs.Questions.{columns_of}
-use Rattle.key.proofs.Soundness.{length_columns}
-use Rattle.text.proofs.Pieces.{start, onward, onward_fits, reworded}
-use Rattle.key.proofs.Rows.{sixteen, length_signs}
+use Rattle.std.proofs.Common.{ℕ, [], ◌∷◌, ◌++◌, codes, append_assoc, arith, length-append}
+use Rattle.theory.specs.Signs.{run_number}
+use Rattle.key.specs.Layouts.{place_text}
+use Rattle.key.specs.Questions.{signs_of}
+use Rattle.text.proofs.Laws.{written_fits}
+use Rattle.key.proofs.Rows.{few_plots, place_le, row_le}
 use Rattle.key.proofs.Key.put_row.Goals as goal
 
-pub put_place-end-requires : goal.put_place-end-requires
-put_place-end-requires c =
-    let shape = c.args.self.now.shape in
-    let p = sixteen shape.w c.args.plot (omega arith) c.requires.plot in
-    let t = sixteen shape.s c.args.subplot (omega arith) c.requires.subplot in
-    record { few = (omega arith, omega arith); room = omega arith }
+pub put_place-requires-clause-few : goal.put_place-requires-clause-few
+put_place-requires-clause-few c = few_plots c.args.self.now c.args.plot c.args.subplot c.requires.plot c.requires.subplot
+
+pub put_signs-requires : goal.put_signs-requires
+put_signs-requires c =
+    let few = few_plots c.args.self.now c.args.plot c.args.subplot c.requires.plot c.requires.subplot in
+    let place = place_le c.args.plot c.args.subplot few.0 few.1 in
+    rw c.put_place.ensures (omega (arith, length-append {A = ℕ}))
 
 pub returns : goal.returns
 returns c =
-    let d = c.args.out.now in
-    let at = c.args.at in
     let key = c.args.self.now in
-    let cs = columns_of key in
-    let run = c.run_in.result in
-    let many = length_signs cs run in
-    let n = length_columns key in
-    let a = onward d at [] d at (place_text c.from.result c.from-2.result) _ _ (start d at (omega arith)) (omega arith) c.put_place-end.ensures.after c.put_place-end.ensures.value in
-    let b = onward d at _ _ _ (signs_text cs run) _ _ a (omega arith) c.put_signs-end.ensures.after c.put_signs-end.ensures.value in
-    let e = onward_fits d at _ _ _ (codes "\n") _ _ b (omega arith) c.put_bytes.ensures.after c.put_bytes.ensures.value in
-    let place = ap₂ place_text c.from.ensures c.from-2.ensures in
-    let whole = reworded d at _ _ _ _ (ap₂ (λ (s : List ℕ) (u : ℕ). s ++ signs_text cs u ++ codes "\n") place c.run_in.ensures) e.0 in
-    record { value = whole.ends; bound = omega arith; after = whole.holds }
+    let t = c.args.text.now.items in
+    let row = row_le key c.args.plot c.args.subplot c.requires.plot c.requires.subplot in
+    let place = place_text c.args.plot c.args.subplot in
+    let signs = signs_of key (run_number (key.shape.w ∷ []) c.args.plot c.args.subplot) in
+    rw (
+      c.put_bytes.ensures,
+      c.put_signs.ensures,
+      c.put_place.ensures,
+      c.run_in.ensures,
+      append_assoc t place signs,
+      written_fits 544 (t ++ (place ++ signs)) (codes "\n") (omega (arith, length-append {A = ℕ})),
+    )
+    (append_assoc t (place ++ signs) (codes "\n"))

@@ -1,27 +1,20 @@
-use Rattle.std.proofs.Common.{◌≡◌, ℕ, ◌+◌, List, [], length, get_or, sym, ap, ◌∙◌, subst, add-zero, arith}
+use Rattle.std.proofs.Common.{◌≡◌, ℕ, List, [], ◌∷◌, length, get_or, ap, ◌∙◌, append_assoc, arith, length-append}
 use Rattle.theory.specs.Words.{sign}
 use Rattle.key.specs.Layouts.{sign_code}
 use Rattle.key.specs.Questions.{columns_of}
 use Rattle.key.proofs.Soundness.{length_columns}
-use Rattle.text.proofs.Pieces.{Placed, start}
-use Rattle.key.proofs.Rows.{signs_to, onward_sign}
+use Rattle.text.proofs.Laws.{written_fits}
+use Rattle.key.proofs.Rows.{signs_to, length_signs_to, signs_more}
 use Rattle.key.proofs.Key.put_signs.Goals as goal
 
-pub loop-factor-init : goal.loop-factor-init
-loop-factor-init c = subst (Placed c.args.out.now c.args.at [] c.args.out.now) (sym (add-zero c.args.at)) (start c.args.out.now c.args.at (omega arith))
-
-pub loop-factor-preserved : goal.loop-factor-preserved
-loop-factor-preserved c =
-    let key = c.args.self.now in
-    let i = c.loop-factor.factor in
-    let long = ap length c.columns-columns.ensures ∙ length_columns key in
-    onward_sign (columns_of key) c.args.run c.args.out.now c.args.at i c.loop-factor.out c.mark.result c.loop-factor.invariant (omega (arith, long, c.requires))
-    (c.mark.ensures ∙ ap sign_code (c.sign_of.ensures ∙ ap (λ (cs : List ℕ). sign (get_or cs i 0) c.args.run) c.columns-columns.ensures))
-
-pub returns : goal.returns
-returns c =
-    let key = c.args.self.now in
-    let long = ap length c.columns-columns.ensures in
-    let all : c.loop-factor.factor ≡ length (columns_of key) = omega (arith, long) in
-    let so = subst (λ (n : ℕ). Placed c.args.out.now c.args.at (signs_to (columns_of key) c.args.run n) c.loop-factor.out (c.args.at + n)) all c.loop-factor.invariant in
-    record { value = omega (arith, so.ends, long); after = so.holds }
+pub loop-column-preserved : goal.loop-column-preserved
+loop-column-preserved c =
+    let cs = columns_of c.args.self.now in
+    let u = c.args.run in
+    let i = c.loop-column.column-index in
+    let t = c.args.text.now.items in
+    let same : c.mark.result ≡ sign_code (sign (get_or cs i 0) u) = c.mark.ensures ∙ ap sign_code (c.sign_of.ensures ∙ ap (λ (xs : List ℕ). sign (get_or xs i 0) u) c.columns-column-items.ensures) in
+    let long = ap length c.columns-column-items.ensures ∙ length_columns c.args.self.now in
+    let so = ap length c.loop-column.invariant ∙ length-append t (signs_to cs u i) in
+    let fits = written_fits 544 c.loop-column.text.items (c.mark.result ∷ []) (omega (arith, length_signs_to cs u i)) in
+    c.put_bytes.ensures ∙ fits ∙ rw (c.loop-column.invariant, same, signs_more cs u i) (append_assoc t (signs_to cs u i) _)

@@ -1,9 +1,8 @@
-use Rattle.std.proofs.Common.{◌+◌}
+use Rattle.std.proofs.Common.{◌≡◌, ◌++◌}
 use Rattle.key.specs.Questions.{columns_of}
-use Rattle.text.proofs.Pieces.{Placed}
 use Rattle.key.proofs.Rows.{signs_to}
 use Rattle.key.proofs.Key.put_signs.Given as goal
 
--- the signs of the factors so far are written
-abbrev pub invariant-loop-factor : goal.invariant-loop-factor
-invariant-loop-factor l = Placed l.initial.out l.at (signs_to (columns_of l.self) l.run l.factor) l.out (l.at + l.factor)
+-- the signs of the factors so far are added
+abbrev pub invariant-loop-column : goal.invariant-loop-column
+invariant-loop-column l = l.text.items ≡ l.initial.text.items ++ signs_to (columns_of l.self) l.run l.column-index

@@ -1,4 +1,4 @@
-use Rattle.std.proofs.Common.{ℕ, ◌+◌, ◌*◌, ◌^◌, ◌<◌, sym, ap, ◌∙◌, zero-add, arith}
+use Rattle.std.proofs.Common.{ℕ, ◌+◌, ◌*◌, ◌<◌, ap, arith}
 use Rattle.key.proofs.Rows.{run_lt}
 use Rattle.key.proofs.layouts.run_in.Goals as goal
 
@@ -12,6 +12,3 @@ overflow_mul-result c = omega (arith, small c)
 
 pub overflow_add-result : goal.overflow_add-result
 overflow_add-result c = omega (arith, small c)
-
-pub returns : goal.returns
-returns c = ap (λ (m : ℕ). c.args.plot + m * c.args.subplot) (c.plots.ensures ∙ ap (λ (j : ℕ). 2 ^ j) (sym (zero-add c.args.shape.w)))
