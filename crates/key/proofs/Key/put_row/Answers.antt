@@ -3,17 +3,18 @@ use Rattle.theory.specs.Signs.{run_number}
 use Rattle.key.specs.Layouts.{place_text}
 use Rattle.key.specs.Questions.{signs_of}
 use Rattle.text.proofs.Laws.{written_fits}
-use Rattle.key.proofs.Rows.{few_plots, place_le, row_le}
+use Rattle.key.proofs.Rows.{few_plots, two_digits, row_le}
 use Rattle.key.proofs.Key.put_row.Goals as goal
 
 pub put_place-requires-clause-few : goal.put_place-requires-clause-few
-put_place-requires-clause-few c = few_plots c.args.self.now c.args.plot c.args.subplot c.requires.plot c.requires.subplot
+put_place-requires-clause-few c =
+    let few = few_plots c.args.self.now c.args.plot c.args.subplot c.requires.plot c.requires.subplot in
+    (omega arith, omega arith)
 
 pub put_signs-requires : goal.put_signs-requires
 put_signs-requires c =
     let few = few_plots c.args.self.now c.args.plot c.args.subplot c.requires.plot c.requires.subplot in
-    let place = place_le c.args.plot c.args.subplot few.0 few.1 in
-    rw c.put_place.ensures (omega (arith, length-append {A = ℕ}))
+    rw c.put_place.ensures (omega (arith, length-append {A = ℕ}, two_digits))
 
 pub returns : goal.returns
 returns c =
