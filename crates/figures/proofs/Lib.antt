@@ -1,5 +1,8 @@
-pub mod Products
-pub mod Growth
-pub mod Rooms
-pub mod Reading
+pub mod Extending
 pub mod Layers
+pub mod Lengths
+pub mod Made
+pub mod Products
+pub mod Reading
+pub mod Rooms
+pub mod Rows

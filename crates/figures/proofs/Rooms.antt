@@ -1,10 +1,18 @@
 -- What room for one more column says.
-use Rattle.std.proofs.Common.{◌≡◌, ℕ, ◌^◌, ◌<◌, ◌≤◌, true, ltb, lt_of_lt_of_le, arith, pow_mono, ltb-true}
-use Rattle.std.proofs.lemmas.Bool.{and_parts}
+use Rattle.std.proofs.Common.{◌≡◌, ℕ, ◌^◌, ◌<◌, true, ltb, length, lt_of_lt_of_le, arith, pow_mono, lt-ltb, ltb-true}
+use Rattle.std.proofs.lemmas.List.{length-take-le}
+use Rattle.std.proofs.lemmas.Bool.{and_parts, and_from}
 use Rattle.opening.specs.Shapes.{units_of}
 use Rattle.opening.specs.declared.Shape.{Shape}
-use Rattle.figures.specs.Counted.{room_for}
+use Rattle.figures.specs.Counted.{columns_in, room_for}
 use Rattle.figures.specs.declared.counts.Counts.{Counts}
+
+-- there are at most 32 unit words
+pub word_small : (shape : Shape) (v : ℕ) → v < 2 ^ units_of shape → v < 32
+word_small shape v h = let units = shape.units in lt_of_lt_of_le h (pow_mono {j = 5} (omega arith))
+
+pub placed_length : (counts : Counts) → length (columns_in counts) ≡ counts.placed
+placed_length counts = length-take-le counts.placed counts.columns (omega (arith, counts.few, counts.long))
 
 module _ (counts : Counts) (c : ℕ) (room : room_for counts c ≡ true) where
   pub room_few : counts.placed < 10
@@ -13,10 +21,8 @@ module _ (counts : Counts) (c : ℕ) (room : room_for counts c ≡ true) where
   pub room_word : c < 2 ^ units_of counts.shape
   room_word = ltb-true c (2 ^ units_of counts.shape) (and_parts (ltb counts.placed 10) (ltb c (2 ^ units_of counts.shape)) room).1
 
-  -- there are at most 32 unit words
-  pub room_small : c < 32
-  room_small = let units = counts.shape.units in lt_of_lt_of_le room_word (pow_mono {j = 5} (omega arith))
-
--- a unit word is below 32
-pub word_small : (shape : Shape) (v to : ℕ) → v < to → to ≤ 2 ^ units_of shape → v < 32
-word_small shape v to h k = let units = shape.units in omega (arith, pow_mono {i = units_of shape} {j = 5} (omega arith))
+-- room for a unit word after fewer than ten columns
+pub room_from : (counts : Counts) (c : ℕ) → length (columns_in counts) < 10 → c < 2 ^ units_of counts.shape → room_for counts c ≡ true
+room_from counts c few word =
+    and_from (ltb counts.placed 10) (ltb c (2 ^ units_of counts.shape))
+    (lt-ltb counts.placed 10 (omega (arith, placed_length counts))) (lt-ltb c (2 ^ units_of counts.shape) word)

@@ -1,29 +1,11 @@
 //! No column, and one column more.
 
-ghost use Rattle.std.specs.Prelude.{◌≡◌, ℕ, suc, ◌+◌, ◌*◌, ◌<◌, ◌≤◌, [], ◌∷◌, ◌++◌, length, if◌then◌else◌, slice_index};
-ghost use Rattle.std.specs.Int.Bits.{bit_xor};
-ghost use Rattle.figures.specs.Counted.{columns_in, room_for, Grown};
+ghost use Rattle.std.specs.Prelude.{◌≡◌, true, [], ◌∷◌, ◌++◌, IfSome, IsSome, ◌↔◌, if◌then◌else◌};
+ghost use Rattle.figures.specs.Counted.{columns_in, room_for};
 
 use super::Counts;
+use super::extension::Extension;
 use opening::Shape;
-
-/// The counts with one column more: an effect leaves the new factor out, or is an old one with it.
-fn grown(old: &[u16; 352], column: u8) -> [u16; 352]
-    requires word { column < 32 }
-    requires small { (i : ℕ) → slice_index old.now i ≤ 1024 }
-    requires long { length old.now ≡ 352 }
-    ensures size { length result ≡ 352 }
-    ensures rows { Grown old.now column result 32 0 }
-{
-    let mut new = *old;
-    for word in 0..32usize {
-        let other = word ^ usize::from(column);
-        for length in 1..11usize {
-            new[word * 11 + length] += old[other * 11 + length - 1];
-        }
-    }
-    new
-}
 
 impl Counts {
     /// The counts of no column: the mean alone.
@@ -31,13 +13,13 @@ impl Counts {
         ensures shape { result.shape ≡ shape }
         ensures columns { columns_in result ≡ [] }
     {
-        let mut counts = [0; 352];
-        counts[0] = 1;
+        let mut table = [[0; 11]; 32];
+        table[0][0] = 1;
         Counts {
             shape,
             columns: [0; 10],
             placed: 0,
-            counts,
+            table,
         }
     }
 
@@ -53,16 +35,9 @@ impl Counts {
         ensures shape { result.shape ≡ self.now.shape }
         ensures columns { columns_in result ≡ (if room_for self.now column then columns_in self.now ++ column ∷ [] else columns_in self.now) }
     {
-        if !self.has_room(column) {
-            return *self;
-        }
-        let mut columns = self.columns;
-        columns[self.placed] = column;
-        Counts {
-            shape: self.shape,
-            columns,
-            placed: self.placed + 1,
-            counts: grown(&self.counts, column),
+        match Extension::new(self, column) {
+            Some(extension) => extension.counts(),
+            None => *self,
         }
     }
 }

@@ -1,16 +1,15 @@
-use Rattle.std.proofs.Common.{◌+◌, sym, ◌∙◌}
+use Rattle.std.proofs.Common.{rules, ◌≡◌, ◌≢◌, ℕ, ◌+◌, ◌<◌, length, sym, subst}
+use Rattle.std.proofs.lemmas.Iterator.{first_from_Range}
+use Rattle.theory.specs.Tallies.{members}
 use Rattle.figures.specs.Counted.{columns_in}
-use Rattle.figures.proofs.Reading.{first_none, first_some}
+use Rattle.figures.proofs.Lengths.{IsFirst, resolution_is}
+use Rattle.figures.proofs.Rooms.{placed_length}
 use Rattle.figures.proofs.counts.Counts.resolution.Goals as goal
 
-pub returns-then-at-ne0 : goal.returns-then-at-ne0
-returns-then-at-ne0 c =
-    let counts = c.args.self.now in
-    sym (first_some (columns_in counts) c.loop-length.length (counts.placed + 1) c.loop-length-test.true (λ z. c.if-at-ne0.true (c.at.ensures.value ∙ z)))
-    ∙ c.loop-length.invariant
-
-pub loop-length-preserved : goal.loop-length-preserved
-loop-length-preserved c =
-    let counts = c.args.self.now in
-    sym (first_none (columns_in counts) c.loop-length.length (counts.placed + 1) c.loop-length-test.true (sym c.at.ensures.value ∙ c.if-at-ne0.false))
-    ∙ c.loop-length.invariant
+pub returns : goal.returns
+returns c =
+    let cs = columns_in c.args.self.now in
+    let Has : ℕ → Type 0 = λ j. members cs j 0 ≢ 0 in
+    let HasNone : ℕ → Type 0 = λ j. members cs j 0 ≡ 0 in
+    let found : IsFirst cs 1 c.args.self.now.placed c.find.result = first_from_Range _ c.find.new.self _ c.find.result Has HasNone c.find.ensures.ran (λ x q k. search rules) (λ x q k. search rules) in
+    resolution_is cs c.find.result (subst (λ (n : ℕ). IsFirst cs 1 n c.find.result) (sym (placed_length c.args.self.now)) found)
