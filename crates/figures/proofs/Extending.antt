@@ -1,5 +1,5 @@
 -- Counts with one column more: the numbers, and sums over words.
-use Rattle.std.proofs.Common.{◌≡◌, ℕ, zero, suc, ◌+◌, ◌-◌, ◌*◌, ◌^◌, ◌<◌, ◌≤◌, ◌≢◌, Bool, true, false, cond, eqb, List, [], ◌∷◌, ◌++◌, length, sym, ap, ◌∙◌, mul-le-mul, add-one, arith}
+use Rattle.std.proofs.Common.{◌≡◌, ℕ, zero, suc, ◌+◌, ◌-◌, ◌*◌, ◌^◌, ◌<◌, ◌≤◌, ◌≢◌, Bool, true, false, cond, eqb, List, sym, ap, ◌∙◌, mul-le-mul, add-one, arith}
 use lib.Bits.{bit_xor, xor_lt}
 use Rattle.std.proofs.lemmas.List.{length_push}
 use Rattle.std.proofs.lemmas.Bool.{eq-eqb, ne_eqb}
@@ -12,7 +12,7 @@ use Rattle.opening.specs.Shapes.{layers_of, units_of}
 use Rattle.figures.specs.Counted.{columns_in, unmixed, unmixed_square}
 use Rattle.figures.specs.Extended.{all_columns}
 use Rattle.figures.specs.declared.counts.extension.Extension.{Extension}
-use Rattle.figures.proofs.Rooms.{placed_length, room_few, room_word, word_small}
+use Rattle.figures.proofs.Rooms.{room_few, room_word, word_small}
 
 -- ---- one word more, of a chain with no main effect or with one
 unmixed_yes : (cs : List ℕ) (v p : ℕ) → members cs 1 v ≡ 0 → p ≡ members cs 2 v → (unmixed cs v ≡ p) × (unmixed_square cs v ≡ p * p)
@@ -54,7 +54,7 @@ module _ (e : Extension) where
   all_pairs : sum_to (members more 2) (2 ^ units) ≤ 45
   all_pairs =
       pairs_le (layers_of e.counts.now.shape) more words_more
-      (omega (arith, length_push (columns_in e.counts.now) e.column, placed_length e.counts.now, room_few e.counts.now e.column e.room))
+      (omega (arith, length_push (columns_in e.counts.now) e.column, room_few e.counts.now e.column e.room))
 
   unmixed_le : (v : ℕ) → unmixed more v ≤ members more 2 v
   unmixed_le v = at (eqb (members more 1 v) 0)

@@ -1,5 +1,5 @@
 -- What the numbers in a table of counts say.
-use Rattle.std.proofs.Common.{◌≡◌, ℕ, ◌+◌, ◌^◌, ◌<◌, ◌≤◌, ◌&&◌, eqb, ◌⊎◌, List, [], length, get_or, ap, ◌∙◌, inl, inr, arith, pow_mono}
+use Rattle.std.proofs.Common.{◌≡◌, ℕ, ◌^◌, ◌<◌, ◌≤◌, ◌&&◌, eqb, ◌⊎◌, List, [], length, get_or, ap, ◌∙◌, inl, inr, arith, pow_mono}
 use lib.Count.{ones, ones-le}
 use Rattle.std.proofs.lemmas.Bool.{cases_eq, eqb-true, and_parts}
 use Rattle.theory.specs.Words.{alias}
@@ -10,7 +10,7 @@ use Rattle.theory.proofs.Tables.{members_le}
 use Rattle.opening.specs.Shapes.{layers_of}
 use Rattle.figures.specs.Counted.{columns_in}
 use Rattle.figures.specs.declared.counts.Counts.{Counts}
-use Rattle.figures.proofs.Rooms.{placed_length, word_small}
+use Rattle.figures.proofs.Rooms.{word_small}
 use Rattle.figures.proofs.Rows.{at_row, at_table}
 
 module _ (counts : Counts) where
@@ -23,7 +23,7 @@ module _ (counts : Counts) where
       ∙ ap (λ (row : List ℕ). get_or row j 0) (at_table cs v h) ∙ at_row cs v j k
 
   pub members_small : (j v : ℕ) → members cs j v ≤ 1024
-  members_small j v = omega (arith, members_le cs j v, pow_mono {i = length cs} {j = 10} (omega (arith, placed_length counts, counts.few)))
+  members_small j v = omega (arith, members_le cs j v, pow_mono {i = length cs} {j = 10} (omega (arith, counts.few)))
 
   -- no effect has more than ten factors, and no alias passes 31
   pub members_none : (j v : ℕ) → (32 ≤ v) ⊎ (11 ≤ j) → members cs j v ≡ 0
@@ -31,7 +31,7 @@ module _ (counts : Counts) where
     where
       none : (e : ℕ) → e < 2 ^ length cs → ones e ≡ j → alias cs e ≡ v → (32 ≤ v) ⊎ (11 ≤ j) → ⊥
       none e h long at (inl l) = omega (arith, word_small counts.shape (alias cs e) (alias_word (layers_of counts.shape) cs counts.words e))
-      none e h long at (inr l) = omega (arith, ones-le (length cs) e h, placed_length counts, counts.few)
+      none e h long at (inr l) = omega (arith, ones-le (length cs) e h, counts.few)
 
       go : (members cs j v ≡ 0) ⊎ (members cs j v ≡ 0 → ⊥) → members cs j v ≡ 0
       go (inl z) = z

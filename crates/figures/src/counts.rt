@@ -1,10 +1,11 @@
 //! The first columns of a key, with how many effects on them have each alias and length.
 
-ghost use Rattle.std.specs.Prelude.{◌≡◌, ◌≤◌, length, take};
+ghost use Rattle.std.specs.Prelude.{◌≡◌, ◌≤◌, length};
 ghost use Rattle.theory.specs.Keys.{Words};
 ghost use Rattle.opening.specs.Shapes.{layers_of};
 ghost use Rattle.figures.specs.Rows.{table_of};
 
+use few::Few;
 use opening::Shape;
 
 mod extension;
@@ -18,11 +19,9 @@ mod reading;
 #[derive(Clone, Copy)]
 pub struct Counts {
     shape: Shape,
-    columns: [u8; 10],
-    placed: usize,
+    columns: Few<u8, 10>,
     table: [[u16; 11]; 32],
-    ghost few: { placed ≤ 10 },
-    ghost long: { length columns ≡ 10 },
-    ghost words: { Words (layers_of shape) (take placed columns) },
-    ghost counted: { table ≡ table_of (take placed columns) },
+    ghost few: { length columns.items ≤ 10 },
+    ghost words: { Words (layers_of shape) columns.items },
+    ghost counted: { table ≡ table_of columns.items },
 }

@@ -7,7 +7,7 @@ use Rattle.opening.specs.Shapes.{layers_of, units_of}
 use Rattle.opening.specs.declared.Shape.{Shape}
 use Rattle.figures.specs.Counted.{columns_in, room_for}
 use Rattle.figures.specs.declared.counts.Counts.{Counts}
-use Rattle.figures.proofs.Reading.{room_from}
+use Rattle.figures.proofs.Rooms.{room_from}
 
 pub front_words : (ws cs : List ℕ) (m : ℕ) → m ≤ length cs → Words ws cs → Words ws (take m cs)
 front_words ws cs m le words i h =

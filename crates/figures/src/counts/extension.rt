@@ -1,6 +1,6 @@
 //! Counts with one column more.
 
-ghost use Rattle.std.specs.Prelude.{◌≡◌, ℕ, ◌-◌, ◌+◌, ◌^◌, ◌<◌, ◌≤◌, true, [], ◌∷◌, ◌++◌, length, if◌then◌else◌, Some, None, IfSome, IfNone, false, IsSome, ◌↔◌};
+ghost use Rattle.std.specs.Prelude.{◌≡◌, ◌+◌, ◌^◌, ◌<◌, ◌≤◌, ◌↔◌, true, IsSome, IfSome};
 ghost use Rattle.figures.specs.Counted.{columns_in, room_for};
 
 use super::Counts;
@@ -10,7 +10,7 @@ use theory::tally::Tally;
 
 /// Counts, and a column that they have room for.
 ///
-/// With it, an effect leaves the new factor out, or it is an old one with the factor: one longer, and
+/// With it an effect leaves the new factor out, or it is an old one with the factor: one longer, and
 /// its alias is the product with the column.
 #[derive(Clone, Copy)]
 pub(super) struct Extension<'a> {
@@ -26,10 +26,10 @@ impl<'a> Extension<'a> {
     ghost use Rattle.figures.specs.Rows.{row_of};
     ghost use Rattle.figures.specs.Extended.{all_columns};
 
-    /// The counts with the column; none where they have no room for it.
+    /// The counts and the column; none where they have no room for it.
     pub(super) fn new(counts: &'a Counts, column: u8) -> Option<Extension<'a>>
         ensures some { IsSome result ↔ room_for counts.now column ≡ true }
-        ensures of { IfSome result (λ extension. (extension.counts.now ≡ counts.now) × (extension.column ≡ column)) }
+        ensures parts { IfSome result (λ extension. (extension.counts.now ≡ counts.now) × (extension.column ≡ column)) }
     {
         if counts.has_room(column) {
             Some(Extension { counts, column })
@@ -83,11 +83,11 @@ impl<'a> Extension<'a> {
     pub(super) fn tally(&self) -> Tally
         ensures { result ≡ tally (layers_of self.now.counts.now.shape) (all_columns self.now) }
     {
-        let shape = self.counts.shape;
         let [_, _, _, a3, a4, a5, a6, a7, a8, a9, a10] = self.row(0);
-        let plots = usize::from(shape.plots());
+        let plots = usize::from(self.counts.shape.plots());
+        let runs = usize::from(self.counts.shape.runs());
         let (m1, q1) = self.unmixed_pairs(1..plots);
-        let (m2, q2) = self.unmixed_pairs(plots..usize::from(shape.runs()));
+        let (m2, q2) = self.unmixed_pairs(plots..runs);
         Tally {
             a3,
             a4,
@@ -109,16 +109,15 @@ impl<'a> Extension<'a> {
         ensures shape { result.shape ≡ self.now.counts.now.shape }
         ensures columns { columns_in result ≡ all_columns self.now }
     {
+        let mut columns = self.counts.columns;
+        columns.push(self.column).unwrap();
         let mut table = [[0; 11]; 32];
         for (word, row) in table.iter_mut().enumerate() {
             *row = self.row(word);
         }
-        let mut columns = self.counts.columns;
-        columns[self.counts.placed] = self.column;
         Counts {
             shape: self.counts.shape,
             columns,
-            placed: self.counts.placed + 1,
             table,
         }
     }

@@ -1,10 +1,11 @@
 //! No column, and one column more.
 
-ghost use Rattle.std.specs.Prelude.{◌≡◌, true, [], ◌∷◌, ◌++◌, IfSome, IsSome, ◌↔◌, if◌then◌else◌};
+ghost use Rattle.std.specs.Prelude.{◌≡◌, [], ◌∷◌, ◌++◌, if◌then◌else◌};
 ghost use Rattle.figures.specs.Counted.{columns_in, room_for};
 
 use super::Counts;
 use super::extension::Extension;
+use few::Few;
 use opening::Shape;
 
 impl Counts {
@@ -17,8 +18,7 @@ impl Counts {
         table[0][0] = 1;
         Counts {
             shape,
-            columns: [0; 10],
-            placed: 0,
+            columns: Few::new(0),
             table,
         }
     }
@@ -27,7 +27,7 @@ impl Counts {
     pub fn has_room(&self, column: u8) -> bool
         ensures { result ≡ room_for self.now column }
     {
-        self.placed < 10 && self.shape.has_word(column)
+        !self.columns.is_full() && self.shape.has_word(column)
     }
 
     /// The same with one more column; unchanged where it has no room.
@@ -35,9 +35,6 @@ impl Counts {
         ensures shape { result.shape ≡ self.now.shape }
         ensures columns { columns_in result ≡ (if room_for self.now column then columns_in self.now ++ column ∷ [] else columns_in self.now) }
     {
-        match Extension::new(self, column) {
-            Some(extension) => extension.counts(),
-            None => *self,
-        }
+        Extension::new(self, column).map_or(*self, |extension| extension.counts())
     }
 }

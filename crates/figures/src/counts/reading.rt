@@ -1,6 +1,6 @@
 //! What is read off the counts.
 
-ghost use Rattle.std.specs.Prelude.{◌≡◌, ◌+◌, ◌^◌, ◌<◌, ◌≤◌, true, [], ◌∷◌, ◌++◌, if◌then◌else◌, Some, None};
+ghost use Rattle.std.specs.Prelude.{◌≡◌, ◌<◌, ◌≤◌, [], ◌∷◌, ◌++◌, if◌then◌else◌, Some, None};
 ghost use Rattle.theory.specs.Words.{alias};
 ghost use Rattle.theory.specs.Tallies.{members, tally, resolution};
 ghost use Rattle.opening.specs.Shapes.{layers_of};
@@ -24,7 +24,7 @@ impl Counts {
     pub fn columns(&self) -> &[u8]
         ensures { result.now ≡ columns_in self.now }
     {
-        &self.columns[0..self.placed]
+        self.columns.as_slice()
     }
 
     /// The alias of an effect under the columns.
@@ -58,13 +58,13 @@ impl Counts {
     pub fn tally_with(&self, column: u8) -> Option<Tally>
         ensures { result ≡ (if room_for self.now column then Some (tally (layers_of self.now.shape) (columns_in self.now ++ column ∷ [])) else None) }
     {
-        Some(Extension::new(self, column)?.tally())
+        Extension::new(self, column).map(|extension| extension.tally())
     }
 
     /// The least length of a defining word of the columns; none where there is no such word.
     pub fn resolution(&self) -> Option<u8>
         ensures { result ≡ resolution (columns_in self.now) }
     {
-        (1..self.placed as u8 + 1).find(|&length| self.count(0, length) != 0)
+        (1..self.columns.len() as u8 + 1).find(|&length| self.count(0, length) != 0)
     }
 }

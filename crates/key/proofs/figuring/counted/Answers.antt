@@ -4,7 +4,7 @@ use Rattle.std.proofs.lemmas.Bool.{cond-true}
 use Rattle.opening.specs.Shapes.{units_of}
 use Rattle.opening.specs.declared.Shape.{Shape}
 use Rattle.figures.specs.Counted.{columns_in, room_for}
-use Rattle.figures.proofs.Reading.{room_from}
+use Rattle.figures.proofs.Rooms.{room_from}
 use Rattle.key.proofs.figuring.counted.Goals as goal
 
 pub loop-column-preserved : goal.loop-column-preserved

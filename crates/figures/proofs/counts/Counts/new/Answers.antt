@@ -1,6 +1,7 @@
-use Rattle.std.proofs.Common.{refl, arith}
+use Rattle.std.proofs.Common.{sym, ap, ◌∙◌}
+use Rattle.figures.specs.Rows.{table_of}
 use Rattle.figures.proofs.Rows.{mean_table}
 use Rattle.figures.proofs.counts.Counts.new.Goals as goal
 
-pub invariant_of-result : goal.invariant_of-result
-invariant_of-result c = record { few = omega arith; long = refl; words = λ i h. absurd (omega arith); counted = mean_table }
+pub invariant_of-result-clause-counted : goal.invariant_of-result-clause-counted
+invariant_of-result-clause-counted c = mean_table ∙ ap table_of (sym c.new.ensures)

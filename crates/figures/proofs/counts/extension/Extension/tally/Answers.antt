@@ -1,7 +1,6 @@
 use Rattle.std.proofs.Common.{◌≡◌, ℕ, ◌+◌, ◌^◌, ◌<◌, List, ap, ◌∙◌, sym, get_or, arith}
-use Rattle.theory.specs.declared.tally.Tally.{Tally}
-use Rattle.theory.specs.Tallies.{members, sum_to, tally}
-use Rattle.opening.specs.Shapes.{layers_of, units_of}
+use Rattle.theory.specs.Tallies.{sum_to, tally}
+use Rattle.opening.specs.Shapes.{units_of}
 use Rattle.figures.specs.Counted.{unmixed, unmixed_square}
 use Rattle.figures.specs.Extended.{all_columns}
 use Rattle.figures.proofs.Extending.{words_more}
@@ -22,7 +21,7 @@ returns c =
     let cs = all_columns c.args.self.now in
     let words = words_more c.args.self.now in
     let plots : c.from-plots.result ≡ 2 ^ shape.w = omega arith in
-    let runs : c.from.result ≡ 2 ^ units_of shape = omega arith in
+    let runs : c.from-runs.result ≡ 2 ^ units_of shape = omega arith in
     let upto = λ (f : ℕ → ℕ). ap (sum_to f) plots in
     let between = λ (f : ℕ → ℕ) (n : ℕ). ap (λ (v : ℕ). sum_to f v + n) (sym plots) in
     let all = λ (f : ℕ → ℕ). ap (sum_to f) runs in

@@ -1,4 +1,4 @@
-use Rattle.std.proofs.Common.{◌≡◌, ℕ, ◌+◌, ◌*◌, ◌^◌, ◌<◌, ◌≤◌, sym, ap, ◌∙◌, arith}
+use Rattle.std.proofs.Common.{◌≡◌, ◌+◌, ◌*◌, ◌≤◌, sym, ap, ◌∙◌, arith}
 use Rattle.theory.specs.Tallies.{members, sum_to}
 use Rattle.figures.specs.Counted.{unmixed, unmixed_square}
 use Rattle.figures.specs.Extended.{all_columns}

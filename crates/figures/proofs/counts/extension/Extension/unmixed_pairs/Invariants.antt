@@ -1,4 +1,4 @@
-use Rattle.std.proofs.Common.{◌≡◌, ◌<◌, ◌≤◌}
+use Rattle.std.proofs.Common.{◌≡◌, ◌≤◌}
 use Rattle.figures.proofs.Extending.{Summed}
 use Rattle.figures.proofs.counts.extension.Extension.unmixed_pairs.Given as goal
 
