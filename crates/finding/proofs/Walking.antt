@@ -1,12 +1,12 @@
 -- The keys of a walk from the counted columns, branch by branch.
 use Rattle.std.proofs.Common.{◌≡◌, ℕ, ◌+◌, ◌-◌, ◌*◌, ◌%◌, ◌^◌, ◌<◌, ◌≤◌, Bool, true, cond, ltb, List, [], ◌∷◌, ◌++◌, length, Some, None, sym, ap, ◌∙◌, subst, ap₂, subst₂, append_assoc, append-nil, add-one, arith, ltb-true, lt-ltb}
 use Rattle.std.proofs.lemmas.Nat.{one_shl}
-use Rattle.std.proofs.lemmas.List.{length_push, length-take-le}
+use Rattle.std.proofs.lemmas.List.{length_push}
 use Rattle.opening.specs.declared.Shape.{Shape}
 use Rattle.opening.specs.Shapes.{units_of, factors_of}
 use Rattle.figures.specs.declared.counts.Counts.{Counts}
 use Rattle.figures.specs.Counted.{columns_in, room_for}
-use Rattle.figures.proofs.Rooms.{word_small}
+use Rattle.figures.proofs.Rooms.{room_from}
 use Rattle.finding.specs.declared.begun.Begun.{Begun}
 use Rattle.finding.specs.declared.opened.Opened.{Opened}
 use Rattle.finding.specs.Walks.{is_all, closed_in, go_on, upto, keys_from, next_in, keys_after, branch_after}
@@ -24,9 +24,6 @@ step P f c keys e d h = subst₂ P (ap (λ (l : List (List ℕ)). (keys ++ upto 
     more = rw (add-one, append_assoc)
 
 -- ---- the words of a shape
-pub small : (shape : Shape) (c : ℕ) → c < 2 ^ units_of shape → c < 32
-small shape c h = word_small shape c (2 ^ units_of shape) h (omega arith)
-
 pub mark_is : (c : ℕ) → c < 32 → (1 * 2 ^ c) % 4294967296 ≡ 2 ^ c
 mark_is c h = one_shl c 32 h
 
@@ -42,9 +39,7 @@ module _ (begun : Begun) where
 
   -- there is room for one column more
   pub room : (c : ℕ) → c < 2 ^ units_of counts.shape → room_for counts c ≡ true
-  room c h =
-      let size : length (columns_in counts) ≡ counts.placed = length-take-le counts.placed counts.columns (omega (arith, counts.few, counts.long.0)) in
-      rw (lt-ltb counts.placed 10 (omega (arith, few, counts.shape.units.4, counts.shape.spare.1)), lt-ltb c (2 ^ units_of counts.shape) h)
+  room c h = room_from counts c (omega (arith, few, counts.shape.units.4, counts.shape.spare.1)) h
 
   -- the branches of all words are all keys
   pub branches : (n : ℕ) (read : Shape) → read ≡ counts.shape → n ≡ 2 ^ units_of read → upto (branch_after counts o) n ≡ keys_after counts o
