@@ -1,4 +1,4 @@
-use Rattle.std.proofs.Common.{◌≡◌, ℕ, ◌+◌, ◌^◌, ◌<◌, List, ap, ◌∙◌, sym, get_or, arith}
+use Rattle.std.proofs.Common.{pow_pos, ◌≡◌, ℕ, ◌+◌, ◌^◌, ◌<◌, List, ap, ◌∙◌, sym, get_or, arith}
 use Rattle.theory.specs.Tallies.{sum_to, tally}
 use Rattle.opening.specs.Shapes.{units_of}
 use Rattle.figures.specs.Counted.{unmixed, unmixed_square}
@@ -12,7 +12,7 @@ pub unmixed_pairs-m1-requires-clause-words : goal.unmixed_pairs-m1-requires-clau
 unmixed_pairs-m1-requires-clause-words c = omega (arith, plots_le c.args.self.now.counts.now.shape)
 
 pub unmixed_pairs-m2-requires-clause-rising : goal.unmixed_pairs-m2-requires-clause-rising
-unmixed_pairs-m2-requires-clause-rising c = omega (arith, plots_le c.args.self.now.counts.now.shape)
+unmixed_pairs-m2-requires-clause-rising c = omega (arith, plots_le c.args.self.now.counts.now.shape, pow_pos c.args.self.now.counts.now.shape.w)
 
 pub returns : goal.returns
 unfolding tally
