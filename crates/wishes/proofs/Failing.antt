@@ -1,5 +1,5 @@
 -- A wish that the first columns fail.
-use Rattle.std.proofs.Common.{◌≡◌, ℕ, ◌+◌, ◌<◌, ◌≤◌, Bool, true, false, ltb, List, [], ◌∷◌, length, take, All, Some, None, Option, MatchBool, MatchOption, sym, refl, ap, ◌∙◌, subst, arith, length-take}
+use Rattle.std.proofs.Common.{◌≡◌, ℕ, ◌<◌, ◌≤◌, Bool, true, false, ltb, List, length, All, Some, None, Option, MatchBool, MatchOption, sym, refl, ap, subst, arith, length-take}
 use native.Mathlib.Nat.{min-le_right}
 use Rattle.std.proofs.lemmas.Bool.{ltb-true, ltb-false}
 use Rattle.theory.specs.declared.wish.Wish.{Wish}

@@ -1,7 +1,7 @@
 -- What the first columns of a key say of a wish. Assumes nothing.
 use Rattle.std.specs.Prelude.{◌≡◌, ℕ, List, [], ◌∷◌, length, take, All, Any, refl}
 use Rattle.theory.specs.declared.wish.Wish.{Wish}
-use Rattle.theory.specs.declared.wish.Wish.TheVariants.{Clear, Apart, Fine, Word, Least}
+use Rattle.theory.specs.declared.wish.Wish.TheVariants.{Word}
 use Rattle.theory.specs.Wishes.{Formed, Meets}
 
 -- the wish is one of the factors of these columns, and the columns do not meet it
