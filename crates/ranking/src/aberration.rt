@@ -40,10 +40,10 @@ impl Ranking for Aberration {
     }
 
     fn compare(&self, first: &WordCounts, second: &WordCounts) -> Verdict {
-        let at3 = Verdict::of_fewer(first.a3 as u64, second.a3 as u64);
-        let at4 = Verdict::of_fewer(first.a4 as u64, second.a4 as u64);
-        let at5 = Verdict::of_fewer(first.a5 as u64, second.a5 as u64);
-        let at6 = Verdict::of_fewer(first.a6 as u64, second.a6 as u64);
+        let at3 = Verdict::of_fewer(first.a3, second.a3);
+        let at4 = Verdict::of_fewer(first.a4, second.a4);
+        let at5 = Verdict::of_fewer(first.a5, second.a5);
+        let at6 = Verdict::of_fewer(first.a6, second.a6);
         at3.then(at4.then(at5.then(at6)))
     }
 }

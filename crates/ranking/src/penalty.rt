@@ -27,6 +27,6 @@ impl Ranking for Penalty {
     }
 
     fn compare(&self, first: &u32, second: &u32) -> Verdict {
-        Verdict::of_fewer(*first as u64, *second as u64)
+        Verdict::of_fewer(*first, *second)
     }
 }
