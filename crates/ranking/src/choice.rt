@@ -33,15 +33,6 @@ pub enum ChoiceScore {
     Pair((WordCounts, Worth)),
 }
 
-const NO_WORDS: WordCounts = WordCounts {
-    a3: 0,
-    a4: 0,
-    a5: 0,
-    a6: 0,
-};
-
-const NO_WORTH: Worth = Worth { sum: 0, squares: 0 };
-
 impl ChoiceScore {
     /// The counts of words, or zeros where the score is of another kind.
     fn words(self) -> WordCounts
@@ -49,7 +40,7 @@ impl ChoiceScore {
     {
         match self {
             ChoiceScore::Words(words) => words,
-            _ => NO_WORDS,
+            _ => WordCounts::default(),
         }
     }
 
@@ -59,7 +50,7 @@ impl ChoiceScore {
     {
         match self {
             ChoiceScore::Worth(worth) => worth,
-            _ => NO_WORTH,
+            _ => Worth::default(),
         }
     }
 
@@ -79,7 +70,7 @@ impl ChoiceScore {
     {
         match self {
             ChoiceScore::Pair(pair) => pair,
-            _ => (NO_WORDS, NO_WORTH),
+            _ => Default::default(),
         }
     }
 }
