@@ -70,12 +70,13 @@ swap_first Better b = refl
 swap_first Level b = refl
 swap_first Worse b = refl
 
--- what holds up by a, or where a is level by p, holds up by a, and by p too if it holds up by a exchanged
+-- what is not worse by a, or where a is level by p, is not worse by a
 first_up : (a p : Verdict) → HoldsUp (first_decisive a p) → HoldsUp a
 first_up Better p up = tt
 first_up Level p up = tt
 first_up Worse p up = up
 
+-- nor by p, where a exchanged is not worse either
 next_up : (a p : Verdict) → HoldsUp (first_decisive a p) → HoldsUp (swapped a) → HoldsUp p
 next_up Better p up back = absurd back
 next_up Level p up back = up

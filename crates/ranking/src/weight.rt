@@ -1,6 +1,6 @@
 //! Weight: many interactions apart from the main effects, a whole-plot one counting a fraction.
 
-ghost use Rattle.std.specs.Prelude.{◌≡◌, ◌+◌, ◌*◌, ◌≤◌, MatchResult};
+ghost use Rattle.std.specs.Prelude.{◌≡◌, MatchResult};
 ghost use Rattle.theory.specs.declared.refusal.Refusal.TheVariants.{WeightLimits};
 ghost use Rattle.ranking.specs.Fractions.{Fraction};
 ghost use Rattle.ranking.specs.Weights.{worth, worthier};
@@ -8,6 +8,7 @@ ghost use Rattle.ranking.specs.OrdersLemmas.{worthier_order};
 
 use crate::ranking::Ranking;
 use crate::verdict::Verdict;
+use std::cmp::Reverse;
 use theory::refusal::Refusal;
 use theory::tally::Tally;
 
@@ -61,8 +62,7 @@ impl Ranking for Weight {
     }
 
     fn compare(&self, first: &Worth, second: &Worth) -> Verdict {
-        let by_sum = Verdict::of_fewer(second.sum, first.sum);
-        let by_squares = Verdict::of_fewer(first.squares, second.squares);
-        by_sum.then(by_squares)
+        let key = |worth: &Worth| (Reverse(worth.sum), worth.squares);
+        Verdict::of_fewer(key(first), key(second))
     }
 }
