@@ -41,6 +41,6 @@ impl Ranking for Aberration {
     }
 
     fn compare(&self, first: &WordCounts, second: &WordCounts) -> Verdict {
-        Verdict::of_fewer(*first, *second)
+        Verdict::of_fewer(first, second)
     }
 }

@@ -30,6 +30,6 @@ impl Ranking for Penalty {
     }
 
     fn compare(&self, first: &u32, second: &u32) -> Verdict {
-        Verdict::of_fewer(*first, *second)
+        Verdict::of_fewer(first, second)
     }
 }
