@@ -23,13 +23,13 @@ impl Ranking for MostFree {
     ghost order = { λ _. piled (through (λ pair. pair.0) (reversed fewer_order)) (through (λ pair. pair.1) fewer_order) };
 
     fn score(&self, tally: &Tally) -> (u32, u32) {
-        (tally.m1 as u32 + tally.m2 as u32, tally.a3 as u32)
+        (
+            u32::from(tally.m1) + u32::from(tally.m2),
+            u32::from(tally.a3),
+        )
     }
 
     fn compare(&self, first: &(u32, u32), second: &(u32, u32)) -> Verdict {
-        Verdict::of_fewer(second.0 as u64, first.0 as u64).then(Verdict::of_fewer(
-            first.1 as u64,
-            second.1 as u64,
-        ))
+        Verdict::of_fewer(second.0, first.0).then(Verdict::of_fewer(first.1, second.1))
     }
 }

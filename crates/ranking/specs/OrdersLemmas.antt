@@ -1,12 +1,15 @@
 -- Orders made of orders, and what follows from the law of order alone. The lemmas stand in specs/ since the laws of impls
 -- cite them.
-use Rattle.std.specs.Prelude.{◌≡◌, ◌≢◌, ℕ, ◌≤◌, Bool, true, false, cond, nat_lt, refl}
-use Rattle.std.proofs.Common.{subst}
-use Rattle.std.proofs.lemmas.Bool.{ltb-true, ltb-false}
-use Rattle.std.proofs.Math.Nat.{lt_irrefl, le_of_lt, le_trans, not-le_of_lt}
+use Rattle.std.specs.Prelude.{◌≡◌, ◌≢◌, false, refl}
+use Rattle.std.specs.declared.cmp.Ordering.{Ordering}
+use Rattle.std.specs.declared.cmp.Ordering.TheVariants.{Less, Equal, Greater}
+use Rattle.std.specs.Ordering.{ordering_reverse, is_gt}
+use Rattle.std.specs.Cmp.{IsTotalOrder}
+use Rattle.std.proofs.Common.{ap, subst}
+use Rattle.std.proofs.lemmas.Cmp.{nat_cmp_total, tied_itself, upto}
 use Rattle.ranking.specs.declared.verdict.Verdict.{Verdict}
 use Rattle.ranking.specs.declared.verdict.Verdict.TheVariants.{Better, Level, Worse}
-use Rattle.ranking.specs.Verdicts.{swapped, HoldsUp, first_decisive, fewer}
+use Rattle.ranking.specs.Verdicts.{swapped, HoldsUp, first_decisive, verdict_of, fewer}
 use Rattle.ranking.specs.Orders.{Order}
 use Rattle.ranking.specs.Aberrations.{fewest}
 use Rattle.ranking.specs.Weights.{worthier}
@@ -28,47 +31,36 @@ reversed o = record {
   transitive = λ x y z h k. o.transitive z y x k h;
 }
 
--- ---- two numbers
+-- ---- where less is better
 
--- of two tests of which not both hold, what the verdict says: whether the first is less, and whether the second is
-abbrev verdict_by : Bool → Bool → Verdict
-verdict_by a b = cond a Better (cond b Worse Level)
+reversed_swaps : (r : Ordering) → verdict_of (ordering_reverse r) ≡ swapped (verdict_of r)
+reversed_swaps Less = refl
+reversed_swaps Equal = refl
+reversed_swaps Greater = refl
 
-verdict_level : (a : Bool) → (a ≡ true → ⊥) → verdict_by a a ≡ Level
-verdict_level true h = absurd (h refl)
-verdict_level false h = refl
+not_greater : (r : Ordering) → HoldsUp (verdict_of r) → is_gt r ≡ false
+not_greater Less up = refl
+not_greater Equal up = refl
+not_greater Greater up = absurd up
 
-verdict_swapped : (a b : Bool) → (a ≡ true → b ≡ true → ⊥) → verdict_by b a ≡ swapped (verdict_by a b)
-verdict_swapped true true h = absurd (h refl refl)
-verdict_swapped true false h = refl
-verdict_swapped false true h = refl
-verdict_swapped false false h = refl
+holds_up : (r : Ordering) → is_gt r ≡ false → HoldsUp (verdict_of r)
+holds_up Less h = tt
+holds_up Equal h = tt
+holds_up Greater h = cc
 
--- what holds up has a second that is not less, and the other way round
-held_up : (a b : Bool) → (a ≡ true → b ≡ true → ⊥) → HoldsUp (verdict_by a b) → b ≡ false
-held_up a false h up = refl
-held_up true true h up = absurd (h refl refl)
-held_up false true h up = absurd up
-
-holds_up : (a b : Bool) → (b ≡ true → ⊥) → HoldsUp (verdict_by a b)
-holds_up true b h = tt
-holds_up false true h = h refl
-holds_up false false h = tt
-
-not_both : (x y : ℕ) → nat_lt x y ≡ true → nat_lt y x ≡ true → ⊥
-not_both x y p q = not-le_of_lt (ltb-true x y p) (le_of_lt (ltb-true y x q))
-
--- where x is not worse than y, it is not more
-at_most : (x y : ℕ) → HoldsUp (fewer x y) → x ≤ y
-at_most x y up = ltb-false y x (held_up (nat_lt x y) (nat_lt y x) (not_both x y) up)
+-- of what a total order compares the lesser is better
+pub of_total : {S : Type 0} {cmp : S → S → Ordering} → IsTotalOrder cmp → Order (λ x y. verdict_of (cmp x y))
+of_total {S} {cmp} o = record {
+  self_level = λ x. ap verdict_of (tied_itself o x);
+  exchange = λ x y. rw (o.antisymm y x) (reversed_swaps (cmp x y));
+  transitive = λ x y z h k. holds_up (cmp x z) (upto o x y z (not_greater (cmp x y) h) (not_greater (cmp y z) k));
+}
 
 -- of two numbers the smaller is better
 pub fewer_order : Order fewer
-fewer_order = record {
-  self_level = λ x. verdict_level (nat_lt x x) (λ t. lt_irrefl x (ltb-true x x t));
-  exchange = λ x y. verdict_swapped (nat_lt x y) (nat_lt y x) (not_both x y);
-  transitive = λ x y z h k. holds_up (nat_lt x z) (nat_lt z x) (λ t. not-le_of_lt (ltb-true z x t) (le_trans (at_most x y h) (at_most y z k)));
-}
+fewer_order = of_total nat_cmp_total
+
+-- ---- one order after another
 
 level_first : (a b : Verdict) → a ≡ Level → b ≡ Level → first_decisive a b ≡ Level
 level_first a b p q = rw (p, q)
@@ -78,6 +70,18 @@ swap_first Better b = refl
 swap_first Level b = refl
 swap_first Worse b = refl
 
+-- what is not worse by a, or where a is level by p, is not worse by a
+first_up : (a p : Verdict) → HoldsUp (first_decisive a p) → HoldsUp a
+first_up Better p up = tt
+first_up Level p up = tt
+first_up Worse p up = up
+
+-- nor by p, where a exchanged is not worse either
+next_up : (a p : Verdict) → HoldsUp (first_decisive a p) → HoldsUp (swapped a) → HoldsUp p
+next_up Better p up back = absurd back
+next_up Level p up back = up
+next_up Worse p up back = absurd up
+
 -- What is not worse, in one order after another. The verdicts on x and y, y and z, x and z are a, b and c in the first
 -- order, and p, q and r in the second.
 joined : (a b c p q r : Verdict) →
@@ -86,21 +90,9 @@ joined : (a b c p q r : Verdict) →
     (HoldsUp (swapped c) → HoldsUp a → HoldsUp (swapped b)) →
     (HoldsUp p → HoldsUp q → HoldsUp r) →
     HoldsUp (first_decisive a p) → HoldsUp (first_decisive b q) → HoldsUp (first_decisive c r)
-joined Better Better Better p q r xyz yzx zxy second h k = tt
-joined Better Better Level p q r xyz yzx zxy second h k = absurd (yzx tt tt)
-joined Better Better Worse p q r xyz yzx zxy second h k = xyz tt tt
-joined Better Level Better p q r xyz yzx zxy second h k = tt
-joined Better Level Level p q r xyz yzx zxy second h k = absurd (yzx tt tt)
-joined Better Level Worse p q r xyz yzx zxy second h k = xyz tt tt
-joined Better Worse c p q r xyz yzx zxy second h k = absurd k
-joined Level Better Better p q r xyz yzx zxy second h k = tt
-joined Level Better Level p q r xyz yzx zxy second h k = absurd (zxy tt tt)
-joined Level Better Worse p q r xyz yzx zxy second h k = xyz tt tt
-joined Level Level Better p q r xyz yzx zxy second h k = tt
-joined Level Level Level p q r xyz yzx zxy second h k = second h k
-joined Level Level Worse p q r xyz yzx zxy second h k = xyz tt tt
-joined Level Worse c p q r xyz yzx zxy second h k = absurd k
-joined Worse b c p q r xyz yzx zxy second h k = absurd h
+joined a b Better p q r xyz yzx zxy second h k = tt
+joined a b Level p q r xyz yzx zxy second h k = second (next_up a p h (yzx (first_up b q k) tt)) (next_up b q k (zxy tt (first_up a p h)))
+joined a b Worse p q r xyz yzx zxy second h k = xyz (first_up a p h) (first_up b q k)
 
 -- better, and then not worse, is better: a, b and c as above
 strictly : (a b c : Verdict) → (HoldsUp b → HoldsUp (swapped c) → HoldsUp (swapped a)) → a ≡ Better → HoldsUp b → c ≡ Better

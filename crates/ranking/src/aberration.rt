@@ -12,8 +12,9 @@ use theory::tally::Tally;
 #[derive(Clone, Copy)]
 pub struct Aberration;
 
-/// The numbers of defining words of length 3 to 6.
-#[derive(Clone, Copy)]
+/// The numbers of defining words of length 3 to 6. Their order is that of the first length at which
+/// they are unlike.
+#[derive(Clone, Copy, Debug, Default, PartialEq, Eq, PartialOrd, Ord, Hash)]
 pub struct WordCounts {
     pub a3: u16,
     pub a4: u16,
@@ -40,10 +41,6 @@ impl Ranking for Aberration {
     }
 
     fn compare(&self, first: &WordCounts, second: &WordCounts) -> Verdict {
-        let at3 = Verdict::of_fewer(first.a3 as u64, second.a3 as u64);
-        let at4 = Verdict::of_fewer(first.a4 as u64, second.a4 as u64);
-        let at5 = Verdict::of_fewer(first.a5 as u64, second.a5 as u64);
-        let at6 = Verdict::of_fewer(first.a6 as u64, second.a6 as u64);
-        at3.then(at4.then(at5.then(at6)))
+        Verdict::of_fewer(first, second)
     }
 }

@@ -14,6 +14,7 @@ use crate::weight::{Weight, Worth};
 use theory::tally::Tally;
 
 /// One of four rankings. It ranks as the ranking that it holds.
+// An enum, since a `dyn Ranking` would need one type of score.
 #[derive(Clone, Copy)]
 pub enum Choice {
     Aberration(Aberration),
@@ -24,7 +25,7 @@ pub enum Choice {
 
 /// A score of one of the four rankings.
 ///
-/// A ranking reads a score of another kind as one of its own kind with zeros only.
+/// A ranking reads it by `From`, and a score of another kind as one of its own kind with zeros only.
 #[derive(Clone, Copy)]
 pub enum ChoiceScore {
     Words(WordCounts),
@@ -33,53 +34,46 @@ pub enum ChoiceScore {
     Pair((WordCounts, Worth)),
 }
 
-const NO_WORDS: WordCounts = WordCounts {
-    a3: 0,
-    a4: 0,
-    a5: 0,
-    a6: 0,
-};
+impl From<ChoiceScore> for WordCounts {
+    ghost from_gives = { λ score words. words ≡ as_words score };
 
-const NO_WORTH: Worth = Worth { sum: 0, squares: 0 };
-
-impl ChoiceScore {
-    /// The counts of words, or zeros where the score is of another kind.
-    fn words(self) -> WordCounts
-        ensures { result ≡ as_words self }
-    {
-        match self {
+    fn from(score: ChoiceScore) -> WordCounts {
+        match score {
             ChoiceScore::Words(words) => words,
-            _ => NO_WORDS,
+            _ => WordCounts::default(),
         }
     }
+}
 
-    /// The worth, or zeros where the score is of another kind.
-    fn worth(self) -> Worth
-        ensures { result ≡ as_worth self }
-    {
-        match self {
+impl From<ChoiceScore> for Worth {
+    ghost from_gives = { λ score worth. worth ≡ as_worth score };
+
+    fn from(score: ChoiceScore) -> Worth {
+        match score {
             ChoiceScore::Worth(worth) => worth,
-            _ => NO_WORTH,
+            _ => Worth::default(),
         }
     }
+}
 
-    /// The penalty, or 0 where the score is of another kind.
-    fn sum(self) -> u32
-        ensures { result ≡ as_sum self }
-    {
-        match self {
+impl From<ChoiceScore> for u32 {
+    ghost from_gives = { λ score sum. sum ≡ as_sum score };
+
+    fn from(score: ChoiceScore) -> u32 {
+        match score {
             ChoiceScore::Sum(sum) => sum,
             _ => 0,
         }
     }
+}
 
-    /// The pile's pair, or zeros where the score is of another kind.
-    fn pair(self) -> (WordCounts, Worth)
-        ensures { result ≡ as_pair self }
-    {
-        match self {
+impl From<ChoiceScore> for (WordCounts, Worth) {
+    ghost from_gives = { λ score pair. pair ≡ as_pair score };
+
+    fn from(score: ChoiceScore) -> (WordCounts, Worth) {
+        match score {
             ChoiceScore::Pair(pair) => pair,
-            _ => (NO_WORDS, NO_WORTH),
+            _ => Default::default(),
         }
     }
 }
@@ -108,11 +102,12 @@ impl Ranking for Choice {
     }
 
     fn compare(&self, first: &ChoiceScore, second: &ChoiceScore) -> Verdict {
+        let (first, second) = (*first, *second);
         match self {
-            Choice::Aberration(ranking) => ranking.compare(&first.words(), &second.words()),
-            Choice::Weight(ranking) => ranking.compare(&first.worth(), &second.worth()),
-            Choice::Penalty(ranking) => ranking.compare(&first.sum(), &second.sum()),
-            Choice::Pile(ranking) => ranking.compare(&first.pair(), &second.pair()),
+            Choice::Aberration(ranking) => ranking.compare(&first.into(), &second.into()),
+            Choice::Weight(ranking) => ranking.compare(&first.into(), &second.into()),
+            Choice::Penalty(ranking) => ranking.compare(&first.into(), &second.into()),
+            Choice::Pile(ranking) => ranking.compare(&first.into(), &second.into()),
         }
     }
 }

@@ -23,10 +23,13 @@ impl Ranking for Penalty {
     ghost order = { λ _. fewer_order };
 
     fn score(&self, tally: &Tally) -> u32 {
-        64 * tally.a3 as u32 + 16 * tally.a4 as u32 + 4 * tally.a5 as u32 + tally.a6 as u32
+        64 * u32::from(tally.a3)
+            + 16 * u32::from(tally.a4)
+            + 4 * u32::from(tally.a5)
+            + u32::from(tally.a6)
     }
 
     fn compare(&self, first: &u32, second: &u32) -> Verdict {
-        Verdict::of_fewer(*first as u64, *second as u64)
+        Verdict::of_fewer(first, second)
     }
 }

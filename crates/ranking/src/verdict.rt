@@ -1,28 +1,37 @@
 //! What a ranking says of two scores.
 
 ghost use Rattle.std.specs.Prelude.{◌≡◌};
-ghost use Rattle.ranking.specs.Verdicts.{fewer, first_decisive};
+ghost use Rattle.ranking.specs.Verdicts.{verdict_of, first_decisive};
+
+use std::cmp::Ordering;
 
 /// How the first of two scores stands to the second.
-#[derive(Clone, Copy, PartialEq)]
+#[derive(Clone, Copy, Debug, PartialEq, Eq, Hash)]
 pub enum Verdict {
     Better,
     Level,
     Worse,
 }
 
-impl Verdict {
-    /// The verdict where the smaller number is better.
-    pub fn of_fewer(first: u64, second: u64) -> Verdict
-        ensures { result ≡ fewer first second }
-    {
-        if first < second {
-            Verdict::Better
-        } else if second < first {
-            Verdict::Worse
-        } else {
-            Verdict::Level
+/// Less is better.
+impl From<Ordering> for Verdict {
+    ghost from_gives = { λ order verdict. verdict ≡ verdict_of order };
+
+    fn from(order: Ordering) -> Verdict {
+        match order {
+            Ordering::Less => Verdict::Better,
+            Ordering::Equal => Verdict::Level,
+            Ordering::Greater => Verdict::Worse,
         }
+    }
+}
+
+impl Verdict {
+    /// The verdict where the smaller is better.
+    pub fn of_fewer<T: Ord + Copy>(first: T, second: T) -> Verdict
+        ensures { result ≡ verdict_of (T.cmp first second) }
+    {
+        first.cmp(&second).into()
     }
 
     /// This verdict, or `next` where this one is level.

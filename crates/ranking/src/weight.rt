@@ -1,6 +1,6 @@
 //! Weight: many interactions apart from the main effects, a whole-plot one counting a fraction.
 
-ghost use Rattle.std.specs.Prelude.{◌≡◌, ◌+◌, ◌*◌, ◌≤◌, MatchResult};
+ghost use Rattle.std.specs.Prelude.{◌≡◌, MatchResult};
 ghost use Rattle.theory.specs.declared.refusal.Refusal.TheVariants.{WeightLimits};
 ghost use Rattle.ranking.specs.Fractions.{Fraction};
 ghost use Rattle.ranking.specs.Weights.{worth, worthier};
@@ -8,6 +8,7 @@ ghost use Rattle.ranking.specs.OrdersLemmas.{worthier_order};
 
 use crate::ranking::Ranking;
 use crate::verdict::Verdict;
+use std::cmp::Reverse;
 use theory::refusal::Refusal;
 use theory::tally::Tally;
 
@@ -23,7 +24,7 @@ pub struct Weight {
 }
 
 /// What a tally is worth at a weight a/b.
-#[derive(Clone, Copy)]
+#[derive(Clone, Copy, Debug, Default, PartialEq, Eq, Hash)]
 pub struct Worth {
     /// a·M1 + b·M2
     pub sum: u64,
@@ -36,7 +37,7 @@ impl Weight {
     pub fn new(a: u16, b: u16) -> Result<Weight, Refusal>
         ensures { MatchResult result (λ w. Fraction a b × (w.a ≡ a) × (w.b ≡ b)) (λ e. (Fraction a b → ⊥) × (e ≡ WeightLimits)) }
     {
-        if b == 0 || b > 1000 || a > b {
+        if !(1..=1000).contains(&b) || a > b {
             return Err(Refusal::WeightLimits);
         }
         Ok(Weight { a, b })
@@ -53,25 +54,15 @@ impl Ranking for Weight {
     ghost order = { λ _. worthier_order };
 
     fn score(&self, tally: &Tally) -> Worth {
-        let a = self.a as u64;
-        let b = self.b as u64;
+        let (a, b) = (u64::from(self.a), u64::from(self.b));
         Worth {
-            sum: weighted(a, tally.m1, b, tally.m2),
-            squares: weighted(a * a, tally.q1, b * b, tally.q2),
+            sum: a * u64::from(tally.m1) + b * u64::from(tally.m2),
+            squares: a * a * u64::from(tally.q1) + b * b * u64::from(tally.q2),
         }
     }
 
     fn compare(&self, first: &Worth, second: &Worth) -> Verdict {
-        let by_sum = Verdict::of_fewer(second.sum, first.sum);
-        let by_squares = Verdict::of_fewer(first.squares, second.squares);
-        by_sum.then(by_squares)
+        let key = |worth: &Worth| (Reverse(worth.sum), worth.squares);
+        Verdict::of_fewer(key(first), key(second))
     }
-}
-
-/// The figure of the whole plots taken `a` times, and that of the subplots `b` times.
-fn weighted(a: u64, whole: u16, b: u64, sub: u16) -> u64
-    requires { (a ≤ 1000000) × (b ≤ 1000000) }
-    ensures { result ≡ a * whole + b * sub }
-{
-    a * whole as u64 + b * sub as u64
 }
