@@ -1,8 +1,7 @@
 -- How an answer is spelled. Each printed line ends with a line feed. Assumes nothing.
-use Rattle.std.specs.Prelude.{◌≡◌, ℕ, ◌<◌, ◌≤◌, cond, List, [], ◌∷◌, ◌++◌, length, take, Ok, Err, codes, decimal, Result, ◌==◌, slice_index, refl}
+use Rattle.std.specs.Prelude.{◌≡◌, ℕ, ◌<◌, ◌≤◌, cond, List, [], ◌∷◌, ◌++◌, length, drop, Ok, Err, codes, decimal, Result, ◌==◌, slice_index, refl}
 use Rattle.std.specs.List.{range_with_len, flat_map}
 use Rattle.std.specs.Fmt.{digits}
-use Rattle.text.specs.Texts.{put}
 use Rattle.theory.specs.Refusals.{refusal_number}
 use Rattle.theory.specs.declared.refusal.Refusal.{Refusal}
 use Rattle.theory.specs.declared.refusal.Refusal.TheVariants.{NoPlan, ShortBuffer}
@@ -26,13 +25,13 @@ columns_text n1 cs = flat_map (λ i. column_text n1 i (slice_index cs i)) (range
 abbrev pub plan_text : ℕ → List ℕ → List ℕ
 plan_text n1 cs = codes "key" ++ columns_text n1 cs ++ codes "\n"
 
--- the i-th effect of a list as letters, with a space before it unless it is the first
-abbrev pub effect_text : ℕ → List ℕ → ℕ → List ℕ
-effect_text n1 es i = cond (i == 0) [] (codes " ") ++ letters_of n1 (slice_index es i)
+-- an effect as letters, with a space before it unless it is the first in its place
+abbrev pub effect_text : ℕ → ℕ → ℕ → List ℕ
+effect_text n1 place effect = cond (place == 0) [] (codes " ") ++ letters_of n1 effect
 
 -- effects as letters, with spaces between them
 abbrev pub effects_text : ℕ → List ℕ → List ℕ
-effects_text n1 es = flat_map (effect_text n1 es) (range_with_len 0 (length es)) ++ codes "\n"
+effects_text n1 es = flat_map (λ i. effect_text n1 i (slice_index es i)) (range_with_len 0 (length es)) ++ codes "\n"
 
 -- `no`, the refusal's number, `line` and the line
 abbrev pub refused_text : Refusal → ℕ → List ℕ
@@ -48,7 +47,7 @@ abbrev pub answer_text : Answer → List ℕ
 answer_text Nothing = []
 answer_text (Plan key) = plan_text key.shape.n1 (columns_of key)
 answer_text (Rows key) = layout_of key
-answer_text (Chain effects) = effects_text effects.n1 (take effects.size effects.list)
+answer_text (Chain effects) = effects_text effects.n1 effects.list.items
 answer_text (Refused refusal line) = refused_text refusal line
 answer_text (Fault fault) = fault_text fault
 
@@ -57,7 +56,7 @@ answer_text (Fault fault) = fault_text fault
 abbrev pub Put : Answer → List ℕ → Result ℕ Refusal → List ℕ → Type 0
 Put answer out (Err why) out' = (why ≡ ShortBuffer) × (length out < 1024) × (out' ≡ out)
 Put answer out (Ok size) out' =
-    (1024 ≤ length out) × (size ≡ length (answer_text answer)) × (size ≤ length out) × (out' ≡ put out 0 (answer_text answer))
+    (1024 ≤ length out) × (size ≡ length (answer_text answer)) × (size ≤ length out) × (out' ≡ answer_text answer ++ drop size out)
 
 example_plan : plan_text 1 (1 ∷ 4 ∷ 5 ∷ 6 ∷ []) ≡ codes "key A=1 p=4 q=5 r=6\n"
 unfolding digits

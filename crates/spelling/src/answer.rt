@@ -1,21 +1,17 @@
 //! What a line of a sheet is answered.
 
-ghost use Rattle.std.specs.Prelude.{◌≡◌, ◌≤◌, length};
-
+use few::Few;
 use key::Key;
 use sheet::fault::SheetFault;
 use theory::refusal::Refusal;
 
 mod spelling;
 
-/// Effects of a plan with `n1` whole-plot factors: the first `size` of `list`.
+/// Effects of a plan with `n1` whole-plot factors.
 #[derive(Clone, Copy)]
 pub struct Effects {
     pub n1: u8,
-    pub list: [u16; 32],
-    pub size: usize,
-    ghost few: { size ≤ 32 },
-    ghost long: { length list ≡ 32 },
+    pub list: Few<u16, 32>,
 }
 
 /// The answer to a line.

@@ -6,9 +6,9 @@ use Rattle.std.proofs.lemmas.List.FromFn.{map-range_with_len_more}
 use Rattle.text.specs.Texts.{written}
 
 -- what fits is added
-pub written_fits : (cap : ℕ) (t s : List ℕ) → length t + length s ≤ cap → written cap t s ≡ t ++ s
+pub written_fits : (room : ℕ) (t s : List ℕ) → length t + length s ≤ room → written room t s ≡ t ++ s
 unfolding written
-written_fits cap t s h = rw (le-leb (length t + length s) cap h)
+written_fits room t s h = rw (le-leb (length t + length s) room h)
 
 -- ---- pieces, one after another
 
@@ -16,19 +16,20 @@ written_fits cap t s h = rw (le-leb (length t + length s) cap h)
 abbrev pub joined : List ℕ → List (List ℕ) → List ℕ
 joined s ps = fold (λ t p. t ++ p) s ps
 
-joined_le : (s : List ℕ) (ps : List (List ℕ)) → length s ≤ length (joined s ps)
-joined_le s [] = omega arith
-joined_le s (p ∷ ps) = omega (arith, length-append s p, joined_le (s ++ p) ps)
+-- how long the pieces ps are together
+abbrev pub total : List (List ℕ) → ℕ
+total [] = 0
+total (p ∷ ps) = length p + total ps
 
-written_after : (cap : ℕ) (t s : List ℕ) (ps : List (List ℕ)) → length t + length (joined s ps) ≤ cap → fold (written cap) (t ++ s) ps ≡ t ++ joined s ps
-written_after cap t s [] h = λ _. t ++ s
-written_after cap t s (p ∷ ps) h =
-    let room : length (t ++ s) + length p ≤ cap = omega (arith, length-append t s, length-append s p, joined_le (s ++ p) ps) in
-    ap (λ x. fold (written cap) x ps) (written_fits cap (t ++ s) p room ∙ append_assoc t s p) ∙ written_after cap t (s ++ p) ps h
+written_after : (room : ℕ) (t s : List ℕ) (ps : List (List ℕ)) → length t + length s + total ps ≤ room → fold (written room) (t ++ s) ps ≡ t ++ joined s ps
+written_after room t s [] h = λ _. t ++ s
+written_after room t s (p ∷ ps) h =
+    let long = length-append t s in
+    ap (λ x. fold (written room) x ps) (written_fits room (t ++ s) p (omega arith) ∙ append_assoc t s p) ∙ written_after room t (s ++ p) ps (omega (arith, length-append s p))
 
 -- pieces that fit together are added one after another
-pub written_all : (cap : ℕ) (t : List ℕ) (ps : List (List ℕ)) → length t + length (joined [] ps) ≤ cap → fold (written cap) t ps ≡ t ++ joined [] ps
-written_all cap t ps h = ap (λ x. fold (written cap) x ps) (sym (append-nil t)) ∙ written_after cap t [] ps h
+pub written_all : (room : ℕ) (t : List ℕ) (ps : List (List ℕ)) → length t + total ps ≤ room → fold (written room) t ps ≡ t ++ joined [] ps
+written_all room t ps h = ap (λ x. fold (written room) x ps) (sym (append-nil t)) ∙ written_after room t [] ps (omega arith)
 
 -- ---- a text for each number
 

@@ -1,139 +1,128 @@
-//! The text of an answer, written into a lent buffer.
+//! The text of an answer.
 
-ghost use Rattle.std.specs.Prelude.{◌≡◌, ℕ, ◌+◌, ◌*◌, ◌<◌, ◌≤◌, List, length};
-ghost use Rattle.std.specs.List.{range_with_len, flat_map};
-ghost use Rattle.text.specs.Texts.{put};
-ghost use Rattle.key.specs.Questions.{columns_of};
+ghost use Rattle.std.specs.Prelude.{◌≡◌, ◌+◌, ◌*◌, ◌<◌, ◌≤◌, ◌++◌, length};
+ghost use Rattle.key.specs.Questions.{columns_of, layout_of};
 ghost use Rattle.spelling.specs.Spelled.{column_text, columns_text, plan_text, effect_text, effects_text, refused_text, fault_text, answer_text, Put};
 
-use super::Answer;
+use super::{Answer, Effects};
+use few::Few;
 use key::Key;
 use sheet::fault::SheetFault;
 use sheet::letters::{letter, put_letters};
 use text::{put_bytes, put_number};
 use theory::refusal::Refusal;
 
-/// The place of the first effect, before which no space is written.
-const FIRST: usize = 0;
+/// Room for the text of any answer.
+const ROOM: usize = 1024;
 
-/// Writes a factor's letter and its column.
-fn put_column(out: &mut [u8], at: usize, n1: u8, factor: u8, column: u8) -> usize
-    requires { at + 6 ≤ length out.old }
-    ensures value { result ≡ at + length (column_text n1 factor column) }
-    ensures bound { result ≤ at + 6 }
-    ensures after { out.new ≡ put out.old at (column_text n1 factor column) }
+/// The text of an answer.
+type Text = Few<u8, ROOM>;
+
+/// Adds a factor's letter and its column.
+fn put_column(text: &mut Text, n1: u8, factor: u8, column: u8)
+    requires { length text.old.items + 6 ≤ ROOM }
+    ensures { text.new.items ≡ text.old.items ++ column_text n1 factor column }
 {
-    let end = put_bytes(out, at, b" ");
-    let end = put_bytes(out, end, &[letter(n1, factor), b'=']);
-    put_number(out, end, usize::from(column))
+    put_bytes(text, b" ");
+    put_bytes(text, &[letter(n1, factor), b'=']);
+    put_number(text, usize::from(column));
 }
 
-/// Writes the letter and the column of each factor.
-fn put_columns(out: &mut [u8], at: usize, n1: u8, columns: &[u8]) -> usize
+/// Adds the letter and the column of each factor.
+fn put_columns(text: &mut Text, n1: u8, columns: &[u8])
     requires few { length columns.now ≤ 10 }
-    requires room { at + 60 ≤ length out.old }
-    ensures value { result ≡ at + length (columns_text n1 columns.now) }
-    ensures bound { result ≤ at + 60 }
-    ensures after { out.new ≡ put out.old at (columns_text n1 columns.now) }
+    requires room { length text.old.items + 60 ≤ ROOM }
+    ensures { text.new.items ≡ text.old.items ++ columns_text n1 columns.now }
 {
-    let mut end = at;
-    for factor in 0..columns.len() {
-        end = put_column(out, end, n1, factor as u8, columns[factor]);
+    for (factor, column) in columns.iter().enumerate() {
+        put_column(text, n1, factor as u8, *column);
     }
-    end
 }
 
-/// Writes `key` and each factor's column.
-fn put_plan(out: &mut [u8], key: &Key) -> usize
-    requires { 1024 ≤ length out.old }
-    ensures value { result ≡ length (plan_text key.now.shape.n1 (columns_of key.now)) }
-    ensures after { out.new ≡ put out.old 0 (plan_text key.now.shape.n1 (columns_of key.now)) }
-    ensures within { result ≤ length out.old }
+/// `key` and each factor's column.
+fn plan(key: &Key) -> Text
+    ensures { result.items ≡ plan_text key.now.shape.n1 (columns_of key.now) }
 {
-    let end = put_bytes(out, 0, b"key");
-    let end = put_columns(out, end, key.shape().n1, key.columns());
-    put_bytes(out, end, b"\n")
+    let mut text = Few::new(0);
+    put_bytes(&mut text, b"key");
+    put_columns(&mut text, key.shape().n1, key.columns());
+    put_bytes(&mut text, b"\n");
+    text
 }
 
-/// Writes an effect as letters, with a space before it unless it is the first.
-fn put_effect(out: &mut [u8], at: usize, n1: u8, effects: &[u16], place: usize) -> usize
-    requires place { place < length effects.now }
-    requires room { at + 17 ≤ length out.old }
-    ensures value { result ≡ at + length (effect_text n1 effects.now place) }
-    ensures bound { result ≤ at + 17 }
-    ensures after { out.new ≡ put out.old at (effect_text n1 effects.now place) }
+/// The rows of a plan.
+fn rows(key: &Key) -> Text
+    ensures { result.items ≡ layout_of key.now }
 {
-    let mut end = at;
-    if place > FIRST {
-        end = put_bytes(out, at, b" ");
+    let mut text = Few::new(0);
+    put_bytes(&mut text, key.rows().as_slice());
+    text
+}
+
+/// Adds an effect as letters, with a space before it unless it is the first.
+fn put_effect(text: &mut Text, n1: u8, place: usize, effect: u16)
+    requires { length text.old.items + 17 ≤ ROOM }
+    ensures { text.new.items ≡ text.old.items ++ effect_text n1 place effect }
+{
+    if place > 0 {
+        put_bytes(text, b" ");
     }
-    put_letters(out, end, n1, effects[place])
+    put_letters(text, n1, effect);
 }
 
-/// Writes effects as letters, with spaces between them.
-fn put_effects(out: &mut [u8], n1: u8, effects: &[u16]) -> usize
-    requires room { 1024 ≤ length out.old }
-    requires few { length effects.now ≤ 32 }
-    ensures value { result ≡ length (effects_text n1 effects.now) }
-    ensures after { out.new ≡ put out.old 0 (effects_text n1 effects.now) }
-    ensures within { result ≤ length out.old }
+/// Effects as letters, with spaces between them.
+fn chain(effects: &Effects) -> Text
+    ensures { result.items ≡ effects_text effects.now.n1 effects.now.list.items }
 {
-    let mut end = 0;
-    for place in 0..effects.len() {
-        end = put_effect(out, end, n1, effects, place);
+    let mut text = Few::new(0);
+    for (place, effect) in effects.list.as_slice().iter().enumerate() {
+        put_effect(&mut text, effects.n1, place, *effect);
     }
-    put_bytes(out, end, b"\n")
+    put_bytes(&mut text, b"\n");
+    text
 }
 
-/// Writes `no`, the refusal's number, `line` and the line.
-fn put_refused(out: &mut [u8], refusal: Refusal, line: usize) -> usize
-    requires { 1024 ≤ length out.old }
-    ensures value { result ≡ length (refused_text refusal line) }
-    ensures after { out.new ≡ put out.old 0 (refused_text refusal line) }
-    ensures within { result ≤ length out.old }
+/// `no`, the refusal's number, `line` and the line.
+fn refused(refusal: Refusal, line: usize) -> Text
+    ensures { result.items ≡ refused_text refusal line }
 {
-    let end = put_bytes(out, 0, b"no ");
-    let end = put_number(out, end, usize::from(refusal.number()));
-    let end = put_bytes(out, end, b" line ");
-    let end = put_number(out, end, line);
-    put_bytes(out, end, b"\n")
+    let mut text = Few::new(0);
+    put_bytes(&mut text, b"no ");
+    put_number(&mut text, usize::from(refusal.number()));
+    put_bytes(&mut text, b" line ");
+    put_number(&mut text, line);
+    put_bytes(&mut text, b"\n");
+    text
 }
 
-/// Writes `bad`, the fault's number, `line`, the line, `column` and the column.
-fn put_fault(out: &mut [u8], fault: SheetFault) -> usize
-    requires { 1024 ≤ length out.old }
-    ensures value { result ≡ length (fault_text fault) }
-    ensures after { out.new ≡ put out.old 0 (fault_text fault) }
-    ensures within { result ≤ length out.old }
+/// `bad`, the fault's number, `line`, the line, `column` and the column.
+fn at_fault(fault: SheetFault) -> Text
+    ensures { result.items ≡ fault_text fault }
 {
     let place = fault.place();
-    let end = put_bytes(out, 0, b"bad ");
-    let end = put_number(out, end, usize::from(fault.number()));
-    let end = put_bytes(out, end, b" line ");
-    let end = put_number(out, end, place.line);
-    let end = put_bytes(out, end, b" column ");
-    let end = put_number(out, end, place.column);
-    put_bytes(out, end, b"\n")
+    let mut text = Few::new(0);
+    put_bytes(&mut text, b"bad ");
+    put_number(&mut text, usize::from(fault.number()));
+    put_bytes(&mut text, b" line ");
+    put_number(&mut text, place.line);
+    put_bytes(&mut text, b" column ");
+    put_number(&mut text, place.column);
+    put_bytes(&mut text, b"\n");
+    text
 }
 
 impl Answer {
-    /// Writes the text of the answer at the start of a buffer that has room for any.
-    fn put_any(self, out: &mut [u8]) -> usize
-        requires { 1024 ≤ length out.old }
-        ensures value { result ≡ length (answer_text self) }
-        ensures after { out.new ≡ put out.old 0 (answer_text self) }
-        ensures within { result ≤ length out.old }
+    /// The text of the answer.
+    fn text(self) -> Text
+        ensures { result.items ≡ answer_text self }
     {
         match self {
-            Answer::Nothing => 0,
-            Answer::Plan(key) => put_plan(out, &key),
-            Answer::Rows(key) => match key.layout(out) {
-                Ok(size) => size,
-                Err(_) => unreachable(),
-            },
-            Answer::Chain(effects) => put_effects(out, effects.n1, &effects.list[0..effects.size]),
-            Answer::Refused(refusal, line) => put_refused(out, refusal, line),
-            Answer::Fault(fault) => put_fault(out, fault),
+            Answer::Nothing => Few::new(0),
+            Answer::Plan(key) => plan(&key),
+            Answer::Rows(key) => rows(&key),
+            Answer::Chain(effects) => chain(&effects),
+            Answer::Refused(refusal, line) => refused(refusal, line),
+            Answer::Fault(fault) => at_fault(fault),
         }
     }
 
@@ -143,9 +132,12 @@ impl Answer {
     pub fn put(self, out: &mut [u8]) -> Result<usize, Refusal>
         ensures { Put self out.old result out.new }
     {
-        if out.len() < 1024 {
+        if out.len() < ROOM {
             return Err(Refusal::ShortBuffer);
         }
-        Ok(self.put_any(out))
+        let text = self.text();
+        let bytes = text.as_slice();
+        out[..bytes.len()].copy_from_slice(bytes);
+        Ok(bytes.len())
     }
 }

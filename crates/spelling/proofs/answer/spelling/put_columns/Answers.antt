@@ -1,20 +1,15 @@
-use Rattle.std.proofs.Common.{◌≡◌, ℕ, length, get_or, ap, arith}
-use Rattle.std.specs.List.{range_with_len, flat_map}
-use Rattle.text.proofs.Pieces.{start, onward_text, reworded}
+use Rattle.std.proofs.Common.{ℕ, get_or, ◌∙◌, arith, length-append}
+use Rattle.text.proofs.Laws.{texts_more}
 use Rattle.spelling.specs.Spelled.{column_text}
+use Rattle.spelling.proofs.Lengths.{columns_le}
 use Rattle.spelling.proofs.answer.spelling.put_columns.Goals as goal
 
-pub loop-factor-init : goal.loop-factor-init
-loop-factor-init c = (start c.args.out.now c.args.at (omega arith), omega arith)
+pub put_column-requires : goal.put_column-requires
+put_column-requires c =
+    let cs = c.args.columns.now in
+    let short = columns_le c.args.n1 cs c.loop-factor.factor (λ i l. (c.type_inv.columns i).fits) in
+    rw c.loop-factor.invariant (omega (arith, length-append {A = ℕ}))
 
 pub loop-factor-preserved : goal.loop-factor-preserved
-loop-factor-preserved c = (
-  onward_text (λ i. column_text c.args.n1 i (get_or c.args.columns.now i 0)) c.args.out.now c.args.at _ _ c.loop-factor.factor _ _ c.loop-factor.invariant.0 (omega arith) c.put_column-end.ensures.after c.put_column-end.ensures.value,
-  omega arith,
-)
-
-pub returns : goal.returns
-returns c =
-    let last : c.loop-factor.factor ≡ length c.args.columns.now = omega arith in
-    let whole = reworded c.args.out.now c.args.at _ _ _ _ (ap (λ (n : ℕ). flat_map (λ i. column_text c.args.n1 i (get_or c.args.columns.now i 0)) (range_with_len 0 n)) last) c.loop-factor.invariant.0 in
-    record { value = whole.ends; bound = omega arith; after = whole.holds }
+loop-factor-preserved c =
+    c.put_column.ensures ∙ rw c.loop-factor.invariant (texts_more (λ i. column_text c.args.n1 i (get_or c.args.columns.now i 0)) c.args.text.now.items c.loop-factor.factor)

@@ -1,11 +1,8 @@
-use Rattle.std.proofs.Common.{◌+◌, ◌*◌, ◌≤◌, get_or}
+use Rattle.std.proofs.Common.{◌≡◌, ◌++◌, get_or}
 use Rattle.std.specs.List.{range_with_len, flat_map}
-use Rattle.text.proofs.Pieces.{Placed}
 use Rattle.spelling.specs.Spelled.{column_text}
 use Rattle.spelling.proofs.answer.spelling.put_columns.Given as goal
 
--- the columns of the factors so far are written
+-- the columns of the factors so far are added
 abbrev pub invariant-loop-factor : goal.invariant-loop-factor
-invariant-loop-factor l =
-    Placed l.initial.out l.at (flat_map (λ i. column_text l.n1 i (get_or l.columns i 0)) (range_with_len 0 l.factor)) l.out l.end
-    × (l.end ≤ l.at + 6 * l.factor)
+invariant-loop-factor l = l.text.items ≡ l.initial.text.items ++ flat_map (λ i. column_text l.n1 i (get_or l.columns i 0)) (range_with_len 0 l.factor)

@@ -1,0 +1,8 @@
+use Rattle.std.proofs.Common.{[], arith}
+use Rattle.text.proofs.Laws.{written_fits}
+use Rattle.spelling.proofs.answer.spelling.rows.Goals as goal
+
+pub returns : goal.returns
+returns c =
+    let fits = written_fits 1024 [] c.as_slice.result.now (omega arith) in
+    cc
