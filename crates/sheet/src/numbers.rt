@@ -11,15 +11,17 @@ pub fn numbers_stand()
 pub fn number(bytes: &[u8]) -> Option<u16>
     ensures { result ≡ number_of bytes.now }
 {
-    if bytes.is_empty() || bytes.len() > 4 {
-        return None;
-    }
-    if bytes[0] == b'0' && bytes.len() > 1 {
+    let well_sized = match bytes {
+        [b'0'] => true,
+        [first, ..] => *first != b'0' && bytes.len() <= 4,
+        [] => false,
+    };
+    if !well_sized {
         return None;
     }
     let mut n = 0u16;
     for b in bytes {
-        if *b < b'0' || *b > b'9' {
+        if !b.is_ascii_digit() {
             return None;
         }
         n = n * 10 + u16::from(*b - b'0');

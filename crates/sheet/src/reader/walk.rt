@@ -4,6 +4,7 @@ ghost use Rattle.sheet.specs.Cuts.{length_up_to, words, lines, placed, numbered,
 ghost use Rattle.sheet.specs.Left.{lines_left, words_left};
 
 use super::{Line, Reader};
+use crate::fault::Place;
 use crate::token::Part;
 
 /// Cutting a line at every space loses nothing, and no word holds a space.
@@ -75,8 +76,8 @@ impl<'a> Line<'a> {
 
     /// The next word, which ends before the next space, or `None` past the last.
     pub fn next_word(&mut self) -> Option<Part<'a>>
-        ensures given { MatchOption result (words_left self.old ≡ []) (λ w. words_left self.old ≡ (w.column, w.bytes.now) ∷ words_left self.new) }
-        ensures place { MatchOption result (self.new ≡ self.old) (λ w. w.line ≡ self.old.number) }
+        ensures given { MatchOption result (words_left self.old ≡ []) (λ w. words_left self.old ≡ (w.place.column, w.bytes.now) ∷ words_left self.new) }
+        ensures place { MatchOption result (self.new ≡ self.old) (λ w. w.place.line ≡ self.old.number) }
         ensures line { self.new.bytes.now ≡ self.old.bytes.now }
         ensures number { self.new.number ≡ self.old.number }
     {
@@ -87,8 +88,10 @@ impl<'a> Line<'a> {
         let n = up_to(rest, b' ');
         let word = Part {
             bytes: &rest[0..n],
-            line: self.number,
-            column: self.at + 1,
+            place: Place {
+                line: self.number,
+                column: self.at + 1,
+            },
         };
         self.at += n + 1;
         Some(word)
