@@ -5,16 +5,17 @@ use lib.Pow.{pow-lt}
 use borrow.Author.Tests.{lt-leb}
 use Rattle.std.proofs.lemmas.List.{at_drop_more, at_drop_all}
 use Rattle.std.proofs.lemmas.Bool.Decides.{nat_tests}
+use Rattle.sheet.specs.declared.letters.Alphabet.{Alphabet}
 use Rattle.sheet.specs.Letters.{factor, given, join_on, effect_of}
 
 -- every lettered factor has a bit
-pub factor_below : (n1 n2 c i : ℕ) → factor n1 n2 c ≡ Some i → i < 16
-factor_below n1 n2 c i e = grind (arith, nat_tests)
+pub factor_below : (a : Alphabet) (c i : ℕ) → factor a c ≡ Some i → i < 16
+factor_below a c i e = grind (arith, nat_tests)
 
 -- a group of some letters is what they join to
-pub some_letters : (n1 n2 : ℕ) (bs : List ℕ) → 0 < length bs → effect_of n1 n2 bs ≡ join_on (factor n1 n2) 0 0 bs
-some_letters n1 n2 [] h = absurd (omega arith)
-some_letters n1 n2 (c ∷ cs) h = refl
+pub some_letters : (a : Alphabet) (bs : List ℕ) → 0 < length bs → effect_of a bs ≡ join_on (factor a) 0 0 bs
+some_letters a [] h = absurd (omega arith)
+some_letters a (c ∷ cs) h = refl
 
 -- a bit above all those of m
 or_above : (m i : ℕ) → m < 2 ^ i → bit_or m (2 ^ i) ≡ m + 2 ^ i

@@ -3,6 +3,7 @@ use Rattle.std.specs.Prelude.{◌≡◌, ℕ, List, Err, Result, refl}
 use Rattle.sheet.specs.Asks.{fixed_at, number_at, effect_at}
 use Rattle.sheet.specs.declared.fault.WordFault.{WordFault}
 use Rattle.sheet.specs.declared.fault.WordFault.TheVariants as wf
+use Rattle.sheet.specs.declared.letters.Alphabet.{Alphabet}
 use Rattle.sheet.specs.declared.token.Part.{Part}
 use Rattle.sheet.specs.declared.token.Token.{Token}
 use Rattle.sheet.specs.declared.token.Token.TheVariants.{Word, Number, Letters}
@@ -26,10 +27,10 @@ number_in (Number p) = number_at p.place.line (p.place.column, p.bytes.now)
 number_in (Letters p) = Err (fault_of (Letters p))
 
 -- a token that is to be a letter group
-abbrev pub effect_in : ℕ → ℕ → Token → Result ℕ WordFault
-effect_in n1 n2 (Word p) = Err (fault_of (Word p))
-effect_in n1 n2 (Number p) = Err (fault_of (Number p))
-effect_in n1 n2 (Letters p) = effect_at n1 n2 p.place.line (p.place.column, p.bytes.now)
+abbrev pub effect_in : Alphabet → Token → Result ℕ WordFault
+effect_in a (Word p) = Err (fault_of (Word p))
+effect_in a (Number p) = Err (fault_of (Number p))
+effect_in a (Letters p) = effect_at a p.place.line (p.place.column, p.bytes.now)
 
 -- a fixed word is no number
 example_word : (p : Part) → number_in (Word p) ≡ Err (wf.Unknown p.place)

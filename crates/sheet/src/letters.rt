@@ -10,41 +10,47 @@ pub fn letters_stand()
     ensures { LettersStand }
 {}
 
-// The factor that a letter stands for.
-fn factor_of(n1: u8, n2: u8, letter: u8) -> Option<u8>
-    ensures { result ≡ factor n1 n2 letter }
-{
-    if n1 > 9 || n2 > 9 || n1 + n2 > 16 {
-        None
-    } else if letter >= b'A' && letter < b'A' + n1 {
-        Some(letter - b'A')
-    } else if letter >= b'p' && letter < b'p' + n2 {
-        Some(n1 + (letter - b'p'))
-    } else {
-        None
-    }
+/// How many factors of each kind a plan has, which settles their letters.
+#[derive(Clone, Copy, Debug, PartialEq, Eq)]
+pub struct Alphabet {
+    /// Whole-plot factors, lettered from A on.
+    pub n1: u8,
+    /// Subplot factors, lettered from p on.
+    pub n2: u8,
 }
 
-/// The effect that a letter group writes: at least one letter, each of another factor, in factor order.
-pub fn effect(n1: u8, n2: u8, bytes: &[u8]) -> Option<u16>
-    ensures { result ≡ effect_of n1 n2 bytes.now }
-{
-    if bytes.is_empty() {
-        return None;
-    }
-    let mut next = 0u8;
-    let mut effect = 0u16;
-    for letter in bytes {
-        let Some(factor) = factor_of(n1, n2, *letter) else {
-            return None;
-        };
-        if factor < next {
+impl Alphabet {
+    // The factor that a letter stands for.
+    fn factor_of(self, letter: u8) -> Option<u8>
+        ensures { result ≡ factor self letter }
+    {
+        if self.n1 > 9 || self.n2 > 9 || self.n1 + self.n2 > 16 {
             return None;
         }
-        effect |= 1 << factor;
-        next = factor + 1;
+        let whole_plot = letter.checked_sub(b'A').filter(|factor| *factor < self.n1);
+        let subplot = letter.checked_sub(b'p').filter(|factor| *factor < self.n2);
+        whole_plot.or(subplot.map(|factor| self.n1 + factor))
     }
-    Some(effect)
+
+    /// The effect that a letter group writes: at least one letter, each of another factor, in factor order.
+    pub fn effect(self, bytes: &[u8]) -> Option<u16>
+        ensures { result ≡ effect_of self bytes.now }
+    {
+        if bytes.is_empty() {
+            return None;
+        }
+        let mut next = 0u8;
+        let mut effect = 0u16;
+        for letter in bytes {
+            let factor = self.factor_of(*letter)?;
+            if factor < next {
+                return None;
+            }
+            effect |= 1 << factor;
+            next = factor + 1;
+        }
+        Some(effect)
+    }
 }
 
 /// The letter of a factor: A and on for the `n1` whole-plot factors, p and on for the subplot factors.

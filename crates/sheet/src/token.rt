@@ -3,7 +3,7 @@ ghost use Rattle.std.specs.Prelude.{◌≡◌};
 ghost use Rattle.sheet.specs.Tokens.{fault_of, fixed_in, number_in, effect_in};
 
 use crate::fault::{Place, WordFault};
-use crate::letters::effect;
+use crate::letters::Alphabet;
 use crate::numbers::number;
 
 /// A part of the sheet, and where it begins.
@@ -53,12 +53,12 @@ impl Token<'_> {
         }
     }
 
-    /// The effect that the token writes, of a plan with `n1` whole-plot and `n2` subplot factors.
-    pub fn effect(self, n1: u8, n2: u8) -> Result<u16, WordFault>
-        ensures { result ≡ effect_in n1 n2 self.entry }
+    /// The effect that the token writes with a plan's letters.
+    pub fn effect(self, alphabet: Alphabet) -> Result<u16, WordFault>
+        ensures { result ≡ effect_in alphabet self.entry }
     {
         match self {
-            Token::Letters(part) => effect(n1, n2, part.bytes).ok_or(self.fault()),
+            Token::Letters(part) => alphabet.effect(part.bytes).ok_or(self.fault()),
             _ => Err(self.fault()),
         }
     }
