@@ -18,6 +18,10 @@ lines_left r = numbered (r.line + 1) (lines r.rest.now)
 abbrev pub words_left : Line → List (ℕ × List ℕ)
 words_left l = words_from l.at l.bytes.now
 
+-- what is read of a line, of its number and the words that it has still to give
+abbrev pub read_of : {R : Type 0} → (ℕ → List (ℕ × List ℕ) → R) → Line → R
+read_of read l = read l.number (words_left l)
+
 -- One call for the next line: the first of the lines left is given whole, with no word read, and those after it are left,
 -- from past its line feed on; where no line is left, there is none and nothing changes.
 pub record GivesLine (r : Reader) (line : Option Line) (r' : Reader) : Type 0 where

@@ -60,7 +60,7 @@ impl WordFault {
         ensures { result ≡ word_place self }
     {
         match self {
-            WordFault::Unknown(place) | WordFault::Number(place) | WordFault::Letters(place) => place,
+            Self::Unknown(place) | Self::Number(place) | Self::Letters(place) => place,
         }
     }
 }

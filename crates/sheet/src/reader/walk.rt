@@ -5,7 +5,7 @@ ghost use Rattle.sheet.specs.Cuts.{length_up_to, lines, numbered, WordsStand, Li
 ghost use Rattle.sheet.specs.Left.{lines_left, words_left, GivesLine, GivesWord};
 
 use super::{Line, Reader};
-use crate::fault::Place;
+use crate::fault::{LineFault, Place};
 use crate::token::Part;
 
 /// Cutting a line at every space loses nothing, and no word holds a space.
@@ -69,6 +69,13 @@ impl<'a> Line<'a> {
         ensures { result ≡ self.now.number }
     {
         self.number
+    }
+
+    /// The fault of a line that has more words than it should, or fewer.
+    pub fn count_fault(&self) -> LineFault
+        ensures { result ≡ LineFault.Count self.now.number }
+    {
+        LineFault::Count { line: self.number }
     }
 }
 
