@@ -1,15 +1,11 @@
 -- What is printed of an effect is read back as that effect. Assumes nothing.
-use Rattle.std.proofs.Common.{◌≡◌, ℕ, zero, suc, ◌+◌, ◌-◌, ◌*◌, ◌/◌, ◌%◌, ◌^◌, ◌<◌, ◌≤◌, Bool, true, false, cond, eqb, List, [], ◌∷◌, ◌++◌, Some, None, Option, sym, refl, ap, ◌∙◌, subst, ⊎_elim, mul_assoc, mul_comm, add-mul, one-mul, pow-suc, zero-mul, add-one, arith, ne_eqb, eqb-true, le-leb}
+use Rattle.std.proofs.Common.{◌≡◌, ℕ, zero, suc, ◌+◌, ◌-◌, ◌*◌, ◌/◌, ◌%◌, ◌^◌, ◌<◌, ◌≤◌, Bool, true, false, cond, eqb, List, [], ◌∷◌, ◌++◌, Some, Option, sym, refl, ap, ◌∙◌, subst, ⊎_elim, mul_assoc, mul_comm, add-mul, one-mul, pow-suc, zero-mul, add-one, arith, ne_eqb, eqb-true, le-leb}
 use borrow.Author.Tests.{eqb-false}
 use Rattle.std.proofs.lemmas.Bool.Decides.{nat_tests}
 use Rattle.std.proofs.str.Laws.{order}
 use Rattle.sheet.specs.declared.letters.Alphabet.{Alphabet}
 use Rattle.sheet.specs.Letters.{lettered, factor, join_on, effect_of, letter_of, letters_from, letters_of, LettersStand}
 use Rattle.sheet.proofs.Spell.{from_next, from_none}
-
-abbrev value_or_0 : Option ℕ → ℕ
-value_or_0 None = 0
-value_or_0 (Some x) = x
 
 -- a factor's letter stands for it
 pub factor_letter : (a : Alphabet) (i : ℕ) → lettered a ≡ true → i < a.n1 + a.n2 → factor a (letter_of a.n1 i) ≡ Some i
@@ -90,7 +86,7 @@ module _ (a : Alphabet) (ok : lettered a ≡ true) where
 
   -- letters that say something are a group
   grouped : (bs : List ℕ) (e : ℕ) → 0 < e → join_on f 0 0 bs ≡ Some e → effect_of a bs ≡ Some e
-  grouped [] e some is = let none : 0 ≡ e = ap value_or_0 is in absurd (omega arith)
+  grouped [] e some is = let none : 0 ≡ e = cc in absurd (omega arith)
   grouped (c ∷ cs) e some is = is
 
 pub letters_stand_lem : LettersStand

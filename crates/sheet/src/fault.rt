@@ -79,7 +79,8 @@ impl SheetFault {
         }
     }
 
-    /// Where the fault lies: where its word begins, else column 1 of its line, and line 1 for the whole sheet.
+    /// Where the fault lies: where its word begins, else column 1 of its line, and line 1 for the
+    /// whole sheet.
     pub fn place(self) -> Place
         ensures { result ≡ fault_place self }
     {

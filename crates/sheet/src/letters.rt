@@ -1,8 +1,9 @@
 //! Letters of factors, and letter groups of effects.
 ghost use Rattle.std.specs.Prelude.{◌≡◌, ◌≤◌};
-ghost use Rattle.text.specs.Texts.{written, ended};
+ghost use Rattle.text.specs.Texts.{written};
 ghost use Rattle.sheet.specs.Letters.{factor, effect_of, letter_of, letters_of, LettersStand};
 
+use few::Few;
 use text::put_bytes;
 
 /// A letter group that was printed is read back as the same effect.
@@ -53,7 +54,7 @@ impl Alphabet {
     }
 }
 
-/// The letter of a factor: A and on for the `n1` whole-plot factors, p and on for the subplot factors.
+/// The letter of a factor: A and on for the `n1` whole-plot factors, p and on for the others.
 /// Past the sixteenth factor, which no effect has, it is a question mark.
 pub fn letter(n1: u8, factor: u8) -> u8
     ensures { result ≡ letter_of n1 factor }
@@ -67,24 +68,19 @@ pub fn letter(n1: u8, factor: u8) -> u8
     }
 }
 
-/// Writes the letters of an effect's factors into `out` from `at` on, `0` for the mean, and tells where they end.
-/// Where they do not fit, it changes nothing and tells `at`.
-pub fn put_letters(out: &mut [u8], at: usize, n1: u8, effect: u16) -> usize
-    ensures value { result ≡ ended out.old at (letters_of n1 effect) }
-    ensures after { out.new ≡ written out.old at (letters_of n1 effect) }
+/// Adds the letters of an effect's factors to a text, `0` for the mean; where they do not fit, it
+/// changes nothing. Of the numbers of factors `n1` alone tells letters apart.
+pub fn put_letters<const CAP: usize>(text: &mut Few<u8, CAP>, n1: u8, effect: u16)
+    ensures { text.new.items ≡ written CAP text.old.items (letters_of n1 effect) }
 {
     if effect == 0 {
-        return put_bytes(out, at, b"0");
+        return put_bytes(text, b"0");
     }
-    let mut group = [0u8; 16];
-    let mut length = 0usize;
-    let mut rest = effect;
-    for factor in 0..16u8 {
-        if rest % 2 == 1 {
-            group[length] = letter(n1, factor);
-            length += 1;
+    let mut group = Few::<u8, 16>::new(b' ');
+    for factor in 0..16 {
+        if (effect >> factor) % 2 == 1 {
+            let _ = group.push(letter(n1, factor));
         }
-        rest /= 2;
     }
-    put_bytes(out, at, &group[0..length])
+    put_bytes(text, group.as_slice());
 }

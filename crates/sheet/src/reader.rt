@@ -11,7 +11,8 @@ pub struct Reader<'a> {
     ghost counted: { line + length rest.now < 2 ^ 64 },
 }
 
-/// Walks over the words of one line.
+/// Walks over the words of one line. The next one begins at `at`, from which its column is counted, so
+/// what is left is not kept beside it.
 #[derive(Drop)]
 pub struct Line<'a> {
     bytes: &'a [u8],
