@@ -11,12 +11,18 @@ use Rattle.planner.specs.Entries.{find}
 use Rattle.planner.specs.Histories.{Goes}
 use Rattle.lines.specs.declared.command.Command.{Command}
 use Rattle.lines.specs.declared.command.Command.TheVariants.{Find, Layout, Chain}
-use Rattle.spelling.specs.Spelled.{plan_text, effects_text, refused_text}
+use Rattle.sheet.specs.declared.letters.Alphabet.{Alphabet}
+use Rattle.spelling.specs.Spelled.{plan_text, effects_text, refused_text, answer_text}
+use Rattle.spelling.specs.declared.answer.Answer.{Answer}
 use Rattle.answers.specs.declared.desk.Desk.{Desk}
 
 -- the numbers of the trial, and its standing plan
 abbrev pub shape_of : Desk → Shape
 shape_of desk = desk.planner.standing.shape
+
+-- the letters of its factors
+abbrev pub alphabet_of : Desk → Alphabet
+alphabet_of desk = record { n1 = (shape_of desk).n1; n2 = (shape_of desk).n2 }
 
 abbrev pub plan_of : Desk → Option Key
 plan_of desk = desk.planner.plan
@@ -33,6 +39,11 @@ chain_by (Err why) key e line = refused_text why line
 
 abbrev pub chain_told : Key → ℕ → ℕ → List ℕ
 chain_told key e line = chain_by (chain_answer key e 32) key e line
+
+-- the text of an outcome: its answer, or the refusal
+abbrev pub outcome_text : Result Answer Refusal → ℕ → List ℕ
+outcome_text (Ok answer) line = answer_text answer
+outcome_text (Err why) line = refused_text why line
 
 -- what is told of a plan, or that none stands
 abbrev pub of_plan : (Key → List ℕ) → Option Key → ℕ → List ℕ

@@ -1,5 +1,5 @@
 -- What a session answers, line by line. Assumes nothing.
-use Rattle.std.specs.Prelude.{◌≡◌, ℕ, ◌<◌, List, [], ◌∷◌, length, Ok, Err, Result, refl}
+use Rattle.std.specs.Prelude.{◌≡◌, ℕ, ◌<◌, List, [], ◌∷◌, length, Ok, Err, Option, Result, IfNone, unwrap_or, refl}
 use Rattle.theory.specs.declared.refusal.Refusal.{Refusal}
 use Rattle.theory.specs.declared.refusal.Refusal.TheVariants.{ShortBuffer}
 use Rattle.sheet.specs.Cuts.{words, placed}
@@ -45,6 +45,22 @@ TakenAt (at.Orders desk) before answer after = Read before (lines_left before.re
 
 abbrev pub Taken : Session → Answer → Session → Type 0
 Taken before answer after = TakenAt before.stage before answer after
+
+-- how many answers may still come: none once the sheet is over, one of a sheet at fault as a whole, else as many as lines are left
+abbrev pub most_at : Stage → ℕ → ℕ
+most_at at.Over lines = 0
+most_at (at.Unread fault) lines = 1
+most_at at.Opening lines = lines
+most_at (at.Ranking shape) lines = lines
+most_at (at.Orders desk) lines = lines
+
+abbrev pub most_left : Session → ℕ
+most_left session = most_at session.stage (length (lines_left session.reader))
+
+-- one call for the next answer: none comes where none may still come
+pub record Gives (before : Session) (given : Option Answer) (after : Session) : Type 0 where
+  pub taken : Taken before (unwrap_or given Nothing) after
+  pub last : IfNone given (most_left before ≡ 0)
 
 -- The call that answers: it refuses a buffer of fewer than 1,024 bytes and then changes nothing; else it writes the text
 -- of the next answer at the buffer's start, leaves the places beyond as they were, and tells its length.

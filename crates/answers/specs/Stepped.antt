@@ -13,12 +13,12 @@ use Rattle.lines.specs.declared.command.Command.{Command}
 use Rattle.sheet.specs.declared.fault.LineFault.{LineFault}
 use Rattle.sheet.specs.declared.fault.SheetFault.{SheetFault}
 use Rattle.sheet.specs.declared.fault.SheetFault.TheVariants as of
-use Rattle.lines.specs.declared.opening.Opening.{Opening}
+use Rattle.opening.specs.declared.Numbers.{Numbers}
 use Rattle.lines.specs.declared.ranking.RankingName.{RankingName}
 use Rattle.lines.specs.declared.ranking.RankingName.TheVariants.{Aberration}
 use Rattle.ranking.specs.Aberrations.{shortest, fewest}
 use Rattle.planner.specs.Openings.{Begins}
-use Rattle.answers.specs.Obeyed.{Obeyed, shape_of}
+use Rattle.answers.specs.Obeyed.{Obeyed, alphabet_of}
 use Rattle.spelling.specs.Spelled.{answer_text}
 use Rattle.spelling.specs.declared.answer.Answer.{Answer}
 use Rattle.spelling.specs.declared.answer.Answer.TheVariants.{Nothing, Refused}
@@ -36,7 +36,7 @@ opened_by line (Ok shape) = (Nothing, at.Ranking shape)
 opened_by line (Err why) = (Refused why line, at.Over)
 
 -- the opening line, as it was read
-abbrev pub Opened : ℕ → Result Opening LineFault → Outcome LineFault → Type 0
+abbrev pub Opened : ℕ → Result Numbers LineFault → Outcome LineFault → Type 0
 Opened line (Err fault) r = r ≡ Err fault
 Opened line (Ok o) r =
     (made : Result Shape Refusal) × shapes.Opening o.w o.s o.n1 o.n2 made × (r ≡ Ok (opened_by line made))
@@ -67,6 +67,6 @@ pub record Lifted (Read : Outcome LineFault → Type 0) (r : Outcome SheetFault)
 abbrev pub Stepped : Stage → ℕ → List (ℕ × List ℕ) → Outcome SheetFault → Type 0
 Stepped at.Opening line words r = Lifted (Opened line (opens line words)) r
 Stepped (at.Ranking shape) line words r = Lifted (Ranked shape (ranks line words)) r
-Stepped (at.Orders desk) line words r = Lifted (Ordered desk line (commands (shape_of desk).n1 (shape_of desk).n2 line words)) r
+Stepped (at.Orders desk) line words r = Lifted (Ordered desk line (commands (alphabet_of desk) line words)) r
 Stepped (at.Unread fault) line words r = r ≡ Ok (Nothing, at.Unread fault)
 Stepped at.Over line words r = r ≡ Ok (Nothing, at.Over)

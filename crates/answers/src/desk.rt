@@ -1,13 +1,15 @@
 //! An opened trial at its planner, and what its orders are answered.
 
-ghost use Rattle.std.specs.Prelude.{◌≡◌};
+ghost use Rattle.std.specs.Prelude.{◌≡◌, ℕ};
+ghost use Rattle.std.specs.Option.{ok_or};
 ghost use Rattle.spelling.specs.Spelled.{answer_text};
-ghost use Rattle.answers.specs.Obeyed.{Obeyed, plan_told, chain_told};
+ghost use Rattle.answers.specs.Obeyed.{Obeyed, alphabet_of, plan_of, outcome_text, chain_told};
 
 use key::Key;
 use lines::command::Command;
 use planner::planner::Planner;
 use ranking::aberration::Aberration;
+use sheet::letters::Alphabet;
 use spelling::answer::{Answer, Effects};
 use theory::refusal::Refusal;
 
@@ -18,44 +20,54 @@ pub struct Desk {
 }
 
 /// The chain of an effect in a plan.
-fn chain_of(key: Key, effect: u16, line: usize) -> Answer
-    ensures { answer_text result ≡ chain_told key effect line }
+fn chain_of(key: Key, effect: u16) -> Result<Answer, Refusal>
+    ensures { (line : ℕ) → outcome_text result line ≡ chain_told key effect line }
 {
     let mut list = [0; 32];
-    match key.chain(effect, &mut list) {
-        Ok(size) => Answer::Chain(Effects {
-            n1: key.shape().n1,
-            list,
-            size,
-        }),
-        Err(refusal) => Answer::Refused(refusal, line),
-    }
-}
-
-/// What a found key is answered.
-fn found(outcome: Result<Key, Refusal>, line: usize) -> Answer
-    ensures { answer_text result ≡ plan_told outcome line }
-{
-    match outcome {
-        Ok(key) => Answer::Plan(key),
-        Err(refusal) => Answer::Refused(refusal, line),
-    }
+    let size = key.chain(effect, &mut list)?;
+    Ok(Answer::Chain(Effects {
+        n1: key.shape().n1,
+        list,
+        size,
+    }))
 }
 
 impl Desk {
+    /// The letters of the trial's factors.
+    pub fn alphabet(&self) -> Alphabet
+        ensures { result ≡ alphabet_of self.now }
+    {
+        let shape = self.planner.shape();
+        Alphabet {
+            n1: shape.n1,
+            n2: shape.n2,
+        }
+    }
+
+    // The standing plan, where there is one.
+    fn plan(&self) -> Result<Key, Refusal>
+        ensures { result ≡ ok_or (plan_of self.now) Refusal.NoPlan }
+    {
+        self.planner.plan().ok_or(Refusal::NoPlan)
+    }
+
+    // What an order comes to.
+    fn outcome(&mut self, command: Command) -> Result<Answer, Refusal>
+        ensures { (line : ℕ) → Obeyed self.old command line (outcome_text result line) self.new }
+    {
+        match command {
+            Command::Find => self.planner.find().map(Answer::Plan),
+            Command::Layout => self.plan().map(Answer::Rows),
+            Command::Chain(effect) => chain_of(self.plan()?, effect),
+        }
+    }
+
     /// Obeys the order of the line with this number: its answer, and the desk after it.
-    pub fn obey(self, command: Command, line: usize) -> (Answer, Desk)
+    pub fn obey(mut self, command: Command, line: usize) -> (Answer, Desk)
         ensures { Obeyed self command line (answer_text result.0) result.1 }
     {
-        match (command, self.planner.plan()) {
-            (Command::Find, _) => {
-                let mut planner = self.planner;
-                let result = planner.find();
-                (found(result, line), Desk { planner })
-            }
-            (_, None) => (Answer::Refused(Refusal::NoPlan, line), self),
-            (Command::Layout, Some(key)) => (Answer::Rows(key), self),
-            (Command::Chain(effect), Some(key)) => (chain_of(key, effect, line), self),
-        }
+        let outcome = self.outcome(command);
+        let answer = outcome.unwrap_or_else(|refusal| Answer::Refused(refusal, line));
+        (answer, self)
     }
 }

@@ -1,19 +1,18 @@
 //! How far a sheet has come, and what its next line is answered.
 
 ghost use Rattle.std.specs.Prelude.{◌≡◌, MatchResult};
-ghost use Rattle.sheet.specs.Left.{words_left};
+ghost use Rattle.sheet.specs.Left.{read_of, words_left};
 ghost use Rattle.lines.specs.Opens.{opens};
 ghost use Rattle.lines.specs.Ranks.{ranks};
 ghost use Rattle.lines.specs.Commands.{commands};
-ghost use Rattle.spelling.specs.Spelled.{answer_text};
-ghost use Rattle.answers.specs.Obeyed.{shape_of};
+ghost use Rattle.answers.specs.Obeyed.{alphabet_of};
 ghost use Rattle.answers.specs.Stepped.{Opened, Ranked, Ordered, Stepped};
 
 use crate::desk::Desk;
 use lines::command::read_command;
-use lines::opening::read_opening;
+use lines::opening_line::read_opening;
 use lines::ranking::{RankingName, read_ranking};
-use opening::{Numbers, Shape};
+use opening::Shape;
 use planner::planner::Planner;
 use ranking::aberration::Aberration;
 use sheet::fault::{LineFault, SheetFault};
@@ -37,17 +36,10 @@ pub enum Stage {
 
 /// Reads the opening line.
 fn opened(line: Line<'_>) -> Result<(Answer, Stage), LineFault>
-    ensures { Opened line.entry.number (opens line.entry.number (words_left line.entry)) result }
+    ensures { Opened line.entry.number (read_of opens line.entry) result }
 {
     let number = line.number();
-    let opening = read_opening(line)?;
-    let numbers = Numbers {
-        w: opening.w,
-        s: opening.s,
-        n1: opening.n1,
-        n2: opening.n2,
-    };
-    match Shape::try_from(numbers) {
+    match Shape::try_from(read_opening(line)?) {
         Ok(shape) => Ok((Answer::Nothing, Stage::Ranking(shape))),
         Err(refusal) => Ok((Answer::Refused(refusal, number), Stage::Over)),
     }
@@ -55,7 +47,7 @@ fn opened(line: Line<'_>) -> Result<(Answer, Stage), LineFault>
 
 /// Reads the line that chooses a ranking.
 fn ranked(line: Line<'_>, shape: Shape) -> Result<(Answer, Stage), LineFault>
-    ensures { Ranked shape (ranks line.entry.number (words_left line.entry)) result }
+    ensures { Ranked shape (read_of ranks line.entry) result }
 {
     match read_ranking(line)? {
         RankingName::Aberration => {
@@ -67,11 +59,10 @@ fn ranked(line: Line<'_>, shape: Shape) -> Result<(Answer, Stage), LineFault>
 
 /// Reads an order and obeys it.
 fn ordered(line: Line<'_>, desk: Desk) -> Result<(Answer, Stage), LineFault>
-    ensures { Ordered desk line.entry.number (commands (shape_of desk).n1 (shape_of desk).n2 line.entry.number (words_left line.entry)) result }
+    ensures { Ordered desk line.entry.number (read_of (commands (alphabet_of desk)) line.entry) result }
 {
     let number = line.number();
-    let shape = desk.planner.shape();
-    let command = read_command(line, shape.n1, shape.n2)?;
+    let command = read_command(line, desk.alphabet())?;
     let (answer, after) = desk.obey(command, number);
     Ok((answer, Stage::Orders(after)))
 }

@@ -5,10 +5,10 @@ use Rattle.sheet.specs.Cuts.{words, placed}
 use Rattle.sheet.specs.Faults.{and_then}
 use Rattle.sheet.specs.declared.fault.LineFault.{LineFault}
 use Rattle.sheet.specs.declared.fault.LineFault.TheVariants.{Word, Count}
-use Rattle.lines.specs.declared.opening.Opening.{Opening}
+use Rattle.opening.specs.declared.Numbers.{Numbers}
 
 -- the four numbers after `open`
-abbrev pub four_numbers : ℕ → List (ℕ × List ℕ) → Result Opening LineFault
+abbrev pub four_numbers : ℕ → List (ℕ × List ℕ) → Result Numbers LineFault
 four_numbers line [] = Err (Count line)
 four_numbers line (a ∷ []) = Err (Count line)
 four_numbers line (a ∷ b ∷ []) = Err (Count line)
@@ -21,7 +21,7 @@ four_numbers line (a ∷ b ∷ c ∷ d ∷ []) =
 four_numbers line (a ∷ b ∷ c ∷ d ∷ e ∷ ws) = Err (Count line)
 
 -- first the fixed word, then how many words there are, then the numbers
-abbrev pub opens : ℕ → List (ℕ × List ℕ) → Result Opening LineFault
+abbrev pub opens : ℕ → List (ℕ × List ℕ) → Result Numbers LineFault
 opens line [] = Err (Count line)
 opens line (h ∷ ws) = and_then Word (fixed_at (codes "open") line h) (λ _. four_numbers line ws)
 

@@ -1,14 +1,15 @@
 //! The lines of a sheet from the third on: `find`, `layout`, `chain e`.
 ghost use Rattle.std.specs.Prelude.{◌≡◌};
-ghost use Rattle.sheet.specs.Left.{words_left};
+ghost use Rattle.sheet.specs.Left.{read_of};
 ghost use Rattle.lines.specs.Commands.{commands, no_words_left, only_effect};
 
 use sheet::fault::LineFault;
+use sheet::letters::Alphabet;
 use sheet::reader::Line;
-use sheet::token::{Token, same};
+use sheet::token::Token;
 
 /// What a line asks of the planner.
-#[derive(Clone, Copy)]
+#[derive(Clone, Copy, Debug, PartialEq, Eq)]
 pub enum Command {
     /// Find the best plan.
     Find,
@@ -18,50 +19,35 @@ pub enum Command {
     Chain(u16),
 }
 
-/// Reads the words left in the line as a command, of a plan with `n1` whole-plot and `n2` subplot factors.
-pub fn read_command(mut line: Line<'_>, n1: u8, n2: u8) -> Result<Command, LineFault>
-    ensures { result ≡ commands n1 n2 line.entry.number (words_left line.entry) }
+/// Reads the words left in the line as a command, with a plan's letters.
+pub fn read_command(mut line: Line<'_>, alphabet: Alphabet) -> Result<Command, LineFault>
+    ensures { result ≡ read_of (commands alphabet) line.entry }
 {
-    let Some(head) = line.next_word() else {
-        return Err(LineFault::Count {
-            line: line.number(),
-        });
-    };
+    let head = line.next().ok_or(line.count_fault())?;
     match head.bytes {
-        word if same(word, b"find") => {
-            none_left(line)?;
-            Ok(Command::Find)
-        }
-        word if same(word, b"layout") => {
-            none_left(line)?;
-            Ok(Command::Layout)
-        }
-        word if same(word, b"chain") => Ok(Command::Chain(one_effect(line, n1, n2)?)),
-        _ => Err(LineFault::Word(Token::Word(head).fault())),
+        b"find" => none_left(line).map(|()| Command::Find),
+        b"layout" => none_left(line).map(|()| Command::Layout),
+        b"chain" => one_effect(line, alphabet).map(Command::Chain),
+        _ => Err(Token::Word(head).fault().into()),
     }
 }
 
 // Refuses a line that has words left.
 fn none_left(mut line: Line<'_>) -> Result<(), LineFault>
-    ensures { result ≡ no_words_left line.entry.number (words_left line.entry) }
+    ensures { result ≡ read_of no_words_left line.entry }
 {
-    match line.next_word() {
+    match line.next() {
         None => Ok(()),
-        Some(_) => Err(LineFault::Count {
-            line: line.number(),
-        }),
+        Some(_) => Err(line.count_fault()),
     }
 }
 
 // The effect that the one word left writes.
-fn one_effect(mut line: Line<'_>, n1: u8, n2: u8) -> Result<u16, LineFault>
-    ensures { result ≡ only_effect n1 n2 line.entry.number (words_left line.entry) }
+fn one_effect(mut line: Line<'_>, alphabet: Alphabet) -> Result<u16, LineFault>
+    ensures { result ≡ read_of (only_effect alphabet) line.entry }
 {
-    let (Some(group), None) = (line.next_word(), line.next_word()) else {
-        return Err(LineFault::Count {
-            line: line.number(),
-        });
+    let (Some(group), None) = (line.next(), line.next()) else {
+        return Err(line.count_fault());
     };
-    let effect = Token::Letters(group).effect(n1, n2)?;
-    Ok(effect)
+    Ok(Token::Letters(group).effect(alphabet)?)
 }

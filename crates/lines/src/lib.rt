@@ -3,5 +3,5 @@
 #![tactic(auto)]
 
 pub mod command;
-pub mod opening;
+pub mod opening_line;
 pub mod ranking;

@@ -2,50 +2,28 @@
 
 #![tactic(auto)]
 
-ghost use Rattle.std.specs.Prelude.{◌≤◌, length, IfOk};
-
 use answers::session::Session;
+use sheet::form::MOST_BYTES;
 use std::io;
 use std::io::{Read, Write};
 
 /// One byte more than a sheet may have, so that a longer one is seen to be too long.
-const MOST: usize = 4097;
-
-/// Reads standard input to its end, or until `sheet` is full, and tells how many bytes there are.
-fn read_sheet(rt: &HostRuntime, sheet: &mut [u8]) -> io::Result<usize>
-    ensures { IfOk result (λ size. size ≤ length sheet.old) }
-{
-    let mut input = rt.stdin();
-    let mut size = 0;
-    for _ in 0..MOST {
-        if size >= sheet.len() {
-            break;
-        }
-        let count = input.read(&mut sheet[size..])?;
-        if count == 0 {
-            break;
-        }
-        size += count;
-    }
-    Ok(size)
-}
+const MOST: u64 = MOST_BYTES as u64 + 1;
 
 /// Answers a sheet line by line.
-fn answer_sheet(rt: &HostRuntime, sheet: &[u8]) -> io::Result<()> {
-    let mut output = rt.stdout();
-    let mut session = Session::new(sheet);
+fn answer_sheet(rt: &impl Print, sheet: &[u8]) -> io::Result<()> {
+    let mut output = io::writer(rt);
     let mut buffer = [0u8; 1024];
-    // A sheet has no more lines than bytes; past its last line the answers are empty.
-    for _ in 0..MOST {
-        if let Ok(size) = session.answer(&mut buffer) {
-            output.write_all(&buffer[0..size])?;
+    for answer in Session::new(sheet) {
+        if let Ok(size) = answer.put(&mut buffer) {
+            output.write_all(&buffer[..size])?;
         }
     }
     Ok(())
 }
 
 fn main(rt: HostRuntime) -> io::Result<()> {
-    let mut sheet = [0u8; MOST];
-    let size = read_sheet(&rt, &mut sheet)?;
-    answer_sheet(&rt, &sheet[0..size])
+    let mut sheet = Vec::new(rt.alloc());
+    rt.stdin().take(MOST).read_to_end(&mut sheet)?;
+    answer_sheet(&rt, &sheet)
 }

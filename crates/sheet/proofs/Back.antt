@@ -1,22 +1,19 @@
 -- What is printed of an effect is read back as that effect. Assumes nothing.
-use Rattle.std.proofs.Common.{◌≡◌, ℕ, zero, suc, ◌+◌, ◌-◌, ◌*◌, ◌/◌, ◌%◌, ◌^◌, ◌<◌, ◌≤◌, Bool, true, false, cond, eqb, List, [], ◌∷◌, ◌++◌, Some, None, Option, sym, refl, ap, ◌∙◌, subst, ⊎_elim, mul_assoc, mul_comm, add-mul, one-mul, pow-suc, zero-mul, add-one, arith, ne_eqb, eqb-true, le-leb}
+use Rattle.std.proofs.Common.{◌≡◌, ℕ, zero, suc, ◌+◌, ◌-◌, ◌*◌, ◌/◌, ◌%◌, ◌^◌, ◌<◌, ◌≤◌, Bool, true, false, cond, eqb, List, [], ◌∷◌, ◌++◌, Some, Option, sym, refl, ap, ◌∙◌, subst, ⊎_elim, mul_assoc, mul_comm, add-mul, one-mul, pow-suc, zero-mul, add-one, arith, ne_eqb, eqb-true, le-leb}
 use borrow.Author.Tests.{eqb-false}
 use Rattle.std.proofs.lemmas.Bool.Decides.{nat_tests}
 use Rattle.std.proofs.str.Laws.{order}
+use Rattle.sheet.specs.declared.letters.Alphabet.{Alphabet}
 use Rattle.sheet.specs.Letters.{lettered, factor, join_on, effect_of, letter_of, letters_from, letters_of, LettersStand}
 use Rattle.sheet.proofs.Spell.{from_next, from_none}
 
-abbrev value_or_0 : Option ℕ → ℕ
-value_or_0 None = 0
-value_or_0 (Some x) = x
-
 -- a factor's letter stands for it
-pub factor_letter : (n1 n2 i : ℕ) → lettered n1 n2 ≡ true → i < n1 + n2 → factor n1 n2 (letter_of n1 i) ≡ Some i
-factor_letter n1 n2 i ok h = grind (arith, nat_tests)
+pub factor_letter : (a : Alphabet) (i : ℕ) → lettered a ≡ true → i < a.n1 + a.n2 → factor a (letter_of a.n1 i) ≡ Some i
+factor_letter a i ok h = grind (arith, nat_tests)
 
 -- at most sixteen factors have letters
-few : (n1 n2 : ℕ) → lettered n1 n2 ≡ true → n1 + n2 ≤ 16
-few n1 n2 ok = grind (arith, nat_tests)
+few : (a : Alphabet) → lettered a ≡ true → a.n1 + a.n2 ≤ 16
+few a ok = grind (arith, nat_tests)
 
 -- half of what fits n factors from i on fits those from the next one on
 halves : (n i r : ℕ) → r < 2 ^ (n - i) → r / 2 < 2 ^ (n - (i + 1))
@@ -62,38 +59,38 @@ bits_even r i e even =
     let all : r * p ≡ q * 2 * p = ap (λ k. k * p) whole in
     omega arith
 
-module _ (n1 n2 : ℕ) (ok : lettered n1 n2 ≡ true) where
+module _ (a : Alphabet) (ok : lettered a ≡ true) where
   abbrev f : ℕ → Option ℕ
-  f = factor n1 n2
+  f = factor a
 
   -- what the letters from factor i + 1 on are read as
   abbrev Later : ℕ → ℕ → List ℕ → Type 0
   Later i r cs = (next e : ℕ) → next ≤ i + 1 → join_on f next e cs ≡ Some (e + r / 2 * 2 ^ (i + 1))
 
-  one_bit : (i next e r : ℕ) (cs : List ℕ) → next ≤ i → r < 2 ^ (n1 + n2 - i) → Later i r cs → (t : Bool) → eqb (r % 2) 1 ≡ t → join_on f next e (cond t (letter_of n1 i ∷ []) [] ++ cs) ≡ Some (e + r * 2 ^ i)
+  one_bit : (i next e r : ℕ) (cs : List ℕ) → next ≤ i → r < 2 ^ (a.n1 + a.n2 - i) → Later i r cs → (t : Bool) → eqb (r % 2) 1 ≡ t → join_on f next e (cond t (letter_of a.n1 i ∷ []) [] ++ cs) ≡ Some (e + r * 2 ^ i)
   one_bit i next e r cs up small later true is =
       let odd = eqb-true (r % 2) 1 is in
-      let here : i < n1 + n2 = ⊎_elim (λ l. l) (λ l. absurd (omega (arith, gone (n1 + n2) i r l small))) (order i (n1 + n2)) in
-      let read : join_on f next e (letter_of n1 i ∷ cs) ≡ join_on f (i + 1) (e + 2 ^ i) cs = rw (factor_letter n1 n2 i ok here, le-leb next i up) in
+      let here : i < a.n1 + a.n2 = ⊎_elim (λ l. l) (λ l. absurd (omega (arith, gone (a.n1 + a.n2) i r l small))) (order i (a.n1 + a.n2)) in
+      let read : join_on f next e (letter_of a.n1 i ∷ cs) ≡ join_on f (i + 1) (e + 2 ^ i) cs = rw (factor_letter a i ok here, le-leb next i up) in
       read ∙ later (i + 1) (e + 2 ^ i) (omega arith) ∙ ap Some (bits_odd r i e odd)
   one_bit i next e r cs up small later false is = later next e (omega arith) ∙ ap Some (bits_even r i e (eqb-false (r % 2) 1 is))
 
-  joins : (m i next e r : ℕ) → n1 + n2 ≤ i + m → next ≤ i → r < 2 ^ (n1 + n2 - i) → join_on f next e (letters_from n1 i m r) ≡ Some (e + r * 2 ^ i)
+  joins : (m i next e r : ℕ) → a.n1 + a.n2 ≤ i + m → next ≤ i → r < 2 ^ (a.n1 + a.n2 - i) → join_on f next e (letters_from a.n1 i m r) ≡ Some (e + r * 2 ^ i)
   joins zero i next e r long up small =
-      let none : r ≡ 0 = gone (n1 + n2) i r (omega arith) small in
+      let none : r ≡ 0 = gone (a.n1 + a.n2) i r (omega arith) small in
       let same : e ≡ e + r * 2 ^ i = omega (arith, ap (λ k. k * 2 ^ i) none, zero-mul (2 ^ i)) in
-      ap (join_on f next e) (from_none n1 i r) ∙ ap Some same
+      ap (join_on f next e) (from_none a.n1 i r) ∙ ap Some same
   joins (suc m) i next e r long up small =
-      ap (join_on f next e) (from_next n1 i m r)
-      ∙ one_bit i next e r (letters_from n1 (i + 1) m (r / 2)) up small (λ next e up. joins m (i + 1) next e (r / 2) (omega arith) up (halves (n1 + n2) i r small)) (eqb (r % 2) 1) refl
+      ap (join_on f next e) (from_next a.n1 i m r)
+      ∙ one_bit i next e r (letters_from a.n1 (i + 1) m (r / 2)) up small (λ next e up. joins m (i + 1) next e (r / 2) (omega arith) up (halves (a.n1 + a.n2) i r small)) (eqb (r % 2) 1) refl
 
   -- letters that say something are a group
-  grouped : (bs : List ℕ) (e : ℕ) → 0 < e → join_on f 0 0 bs ≡ Some e → effect_of n1 n2 bs ≡ Some e
-  grouped [] e some is = let none : 0 ≡ e = ap value_or_0 is in absurd (omega arith)
+  grouped : (bs : List ℕ) (e : ℕ) → 0 < e → join_on f 0 0 bs ≡ Some e → effect_of a bs ≡ Some e
+  grouped [] e some is = let none : 0 ≡ e = cc in absurd (omega arith)
   grouped (c ∷ cs) e some is = is
 
 pub letters_stand_lem : LettersStand
-letters_stand_lem n1 n2 e ok some small =
-    let bits : join_on (factor n1 n2) 0 0 (letters_from n1 0 16 e) ≡ Some (0 + e * 2 ^ 0) = joins n1 n2 ok 16 0 0 0 e (few n1 n2 ok) (omega arith) (subst (λ k. e < 2 ^ k) (omega arith) small) in
-    let whole : letters_of n1 e ≡ letters_from n1 0 16 e = rw (ne_eqb e 0 (λ z. omega arith)) in
-    ap (effect_of n1 n2) whole ∙ grouped n1 n2 ok (letters_from n1 0 16 e) e some (bits ∙ ap Some (omega arith))
+letters_stand_lem a e ok some small =
+    let bits : join_on (factor a) 0 0 (letters_from a.n1 0 16 e) ≡ Some (0 + e * 2 ^ 0) = joins a ok 16 0 0 0 e (few a ok) (omega arith) (subst (λ k. e < 2 ^ k) (omega arith) small) in
+    let whole : letters_of a.n1 e ≡ letters_from a.n1 0 16 e = rw (ne_eqb e 0 (λ z. omega arith)) in
+    ap (effect_of a) whole ∙ grouped a ok (letters_from a.n1 0 16 e) e some (bits ∙ ap Some (omega arith))

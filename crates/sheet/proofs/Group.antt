@@ -1,43 +1,24 @@
 -- A letter group read letter by letter. Assumes nothing.
-use Rattle.std.proofs.Common.{◌≡◌, ℕ, ◌+◌, ◌*◌, ◌%◌, ◌^◌, ◌<◌, ◌≤◌, cond, leb, List, [], ◌∷◌, length, get_or, drop, Some, None, Option, sym, refl, ap, ◌∙◌, mod-eq_of_lt, one-mul, pow-suc, add-one, arith, pow_mono, le-leb}
+use Rattle.std.proofs.Common.{◌≡◌, ℕ, ◌+◌, ◌*◌, ◌%◌, ◌^◌, ◌<◌, ◌≤◌, cond, leb, List, length, get_or, drop, Some, None, Option, sym, ap, ◌∙◌, mod-eq_of_lt, one-mul, pow-suc, add-one, arith, pow_mono, le-leb}
 use lib.Bits.{bit_or, or_shifted_r}
 use lib.Pow.{pow-lt}
-use borrow.Author.Tests.{lt-leb}
-use Rattle.std.proofs.lemmas.List.{at_drop_more, at_drop_all}
+use Rattle.std.proofs.lemmas.List.{at_drop_more}
 use Rattle.std.proofs.lemmas.Bool.Decides.{nat_tests}
-use Rattle.sheet.specs.Letters.{factor, given, join_on, effect_of}
+use Rattle.sheet.specs.declared.letters.Alphabet.{Alphabet}
+use Rattle.sheet.specs.Letters.{factor, given, join_on}
 
 -- every lettered factor has a bit
-pub factor_below : (n1 n2 c i : ℕ) → factor n1 n2 c ≡ Some i → i < 16
-factor_below n1 n2 c i e = grind (arith, nat_tests)
-
--- a group of some letters is what they join to
-pub some_letters : (n1 n2 : ℕ) (bs : List ℕ) → 0 < length bs → effect_of n1 n2 bs ≡ join_on (factor n1 n2) 0 0 bs
-some_letters n1 n2 [] h = absurd (omega arith)
-some_letters n1 n2 (c ∷ cs) h = refl
+pub factor_below : (a : Alphabet) (c i : ℕ) → factor a c ≡ Some i → i < 16
+factor_below a c i e = grind (arith, nat_tests)
 
 -- a bit above all those of m
 or_above : (m i : ℕ) → m < 2 ^ i → bit_or m (2 ^ i) ≡ m + 2 ^ i
 or_above m i h = let e = or_shifted_r 1 i m h in omega (arith, ap (bit_or m) (one-mul (2 ^ i)), one-mul (2 ^ i))
 
-module _ (f : ℕ → Option ℕ) where
-  abbrev Step : ℕ → ℕ → List ℕ → ℕ → Type 0
-  Step next e bs k = join_on f next e (drop k bs) ≡ given (f (get_or bs k 0)) (λ i. cond (leb next i) (join_on f (i + 1) (e + 2 ^ i) (drop (k + 1) bs)) None)
-
-  step : (next e : ℕ) (bs : List ℕ) (k : ℕ) → k < length bs → Step next e bs k
-  step next e bs k h = at_drop_more (join_on f next e) bs k 0 h
-
-  join_more : (next e : ℕ) (bs : List ℕ) (k i : ℕ) → k < length bs → f (get_or bs k 0) ≡ Some i → next ≤ i → join_on f next e (drop k bs) ≡ join_on f (i + 1) (e + 2 ^ i) (drop (k + 1) bs)
-  join_more next e bs k i h is up = step next e bs k h ∙ rw (is, le-leb next i up)
-
-  pub join_other : (next e : ℕ) (bs : List ℕ) (k : ℕ) → k < length bs → f (get_or bs k 0) ≡ None → join_on f next e (drop k bs) ≡ None
-  join_other next e bs k h is = step next e bs k h ∙ rw is
-
-  pub join_back : (next e : ℕ) (bs : List ℕ) (k i : ℕ) → k < length bs → f (get_or bs k 0) ≡ Some i → i < next → join_on f next e (drop k bs) ≡ None
-  join_back next e bs k i h is down = step next e bs k h ∙ rw (is, lt-leb next i down)
-
-  pub join_end : (next e : ℕ) (bs : List ℕ) (k : ℕ) → length bs ≤ k → join_on f next e (drop k bs) ≡ Some e
-  join_end next e bs k h = at_drop_all (join_on f next e) bs k h
+join_more : (f : ℕ → Option ℕ) (next e : ℕ) (bs : List ℕ) (k i : ℕ) → k < length bs → f (get_or bs k 0) ≡ Some i → next ≤ i → join_on f next e (drop k bs) ≡ join_on f (i + 1) (e + 2 ^ i) (drop (k + 1) bs)
+join_more f next e bs k i h is up =
+    let step : join_on f next e (drop k bs) ≡ given (f (get_or bs k 0)) (λ i. cond (leb next i) (join_on f (i + 1) (e + 2 ^ i) (drop (k + 1) bs)) None) = at_drop_more (join_on f next e) bs k 0 h in
+    step ∙ rw (is, le-leb next i up)
 
 below_next : (m i : ℕ) → m < 2 ^ i → m + 2 ^ i < 2 ^ (i + 1)
 below_next m i h = rw (add-one, pow-suc) (omega arith)

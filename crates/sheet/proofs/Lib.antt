@@ -1,4 +1,3 @@
-pub mod Cut
 pub mod Step
 pub mod Whole
 pub mod Digit

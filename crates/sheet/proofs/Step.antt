@@ -1,10 +1,17 @@
 -- What one call gives of what is left. Assumes nothing.
-use Rattle.std.proofs.Common.{◌≡◌, ℕ, suc, ◌+◌, ◌-◌, ◌<◌, ◌≤◌, min, Bool, true, false, cond, not, eqb, leb, List, [], ◌∷◌, length, take, drop, sym, refl, ap, ◌∙◌, ⊎_elim, arith, length-drop, le-leb}
-use Rattle.std.proofs.lemmas.List.{drop-drop, take_rest, drop_all, length-take-le}
+use Rattle.std.proofs.Common.{◌≡◌, ℕ, suc, ◌+◌, ◌<◌, ◌≤◌, Bool, true, false, cond, not, eqb, leb, List, [], ◌∷◌, length, take, drop, Some, None, Option, MatchOption, unwrap_or, ◌⊎◌, sym, refl, ap, ◌∙◌, ⊎_elim, arith, length-drop, le-leb}
+use Rattle.std.specs.Bool.{⊤}
+use Rattle.std.specs.Iterator.{MakesProgress, item_count}
+use Rattle.std.specs.Borrow.{Bor}
+use Rattle.std.specs.List.{slice_range}
+use Rattle.std.proofs.lemmas.List.{drop-drop, drop_all, take_rest}
+use Rattle.std.proofs.lemmas.List.Folds.{length-prefix_len}
 use Rattle.std.proofs.lemmas.Bool.Decides.{nat_tests}
-use Rattle.std.proofs.str.Laws.{order}
-use Rattle.sheet.specs.Cuts.{length_up_to, pieces, words, lines, on_first, placed}
-use Rattle.sheet.specs.Left.{words_from}
+use Rattle.sheet.specs.Cuts.{length_up_to, pieces, words, lines, on_first, placed, numbered}
+use Rattle.sheet.specs.Left.{words_from, lines_left, words_left, GivesLine, GivesWord}
+use Rattle.sheet.specs.declared.reader.Line.{Line}
+use Rattle.sheet.specs.declared.reader.Reader.{Reader}
+use Rattle.sheet.specs.declared.token.Part.{Part}
 
 pieces_step : (b : ℕ) (xs : List ℕ) → pieces b xs ≡ take (length_up_to b xs) xs ∷ cond (leb (length_up_to b xs + 1) (length xs)) (pieces b (drop (length_up_to b xs + 1) xs)) []
 pieces_step b [] = refl
@@ -28,43 +35,43 @@ one_more x xs ih false =
     let one : 1 + length_up_to 10 xs ≡ suc (length_up_to 10 xs) = omega arith in
     rw (far, one) ih
 
-lines_step : (xs : List ℕ) → 0 < length xs → lines xs ≡ take (length_up_to 10 xs) xs ∷ lines (drop (length_up_to 10 xs + 1) xs)
+pub lines_step : (xs : List ℕ) → 0 < length xs → lines xs ≡ take (length_up_to 10 xs) xs ∷ lines (drop (length_up_to 10 xs + 1) xs)
 lines_step [] h = absurd (omega arith)
 lines_step (x ∷ []) h = one_more x [] refl (eqb x 10)
 lines_step (x ∷ y ∷ ys) h = one_more x (y ∷ ys) (ap (on_first x) (lines_step (y ∷ ys) (omega arith))) (eqb x 10)
 
--- past the end nothing is left
-drop_min : (a : ℕ) (s : List ℕ) → drop (min a (length s)) s ≡ drop a s
-drop_min a s = ⊎_elim (λ l. ap (λ n. drop n s) (omega arith)) (λ l. drop_all (min a (length s)) s (omega arith) ∙ sym (drop_all a s l)) (order a (length s))
+-- the line at the front of s with its number, and those after it
+pub line_given : (s front s' : List ℕ) (k n : ℕ) → 0 < length s → n ≡ length_up_to 10 s → front ≡ take n s → s' ≡ drop (n + 1) s → numbered (k + 1) (lines s) ≡ (k + 1, front) ∷ numbered (k + 1 + 1) (lines s')
+line_given s front s' k n h e is left = rw (is, left, e) (ap (numbered (k + 1)) (lines_step s h))
 
--- the line at a, and what is left after it
-pub line_step : (s : List ℕ) (a n m : ℕ) → a < length s → n ≡ length_up_to 10 (take (length s - a) (drop a s)) → m ≡ min (a + n + 1) (length s) → lines (drop a s) ≡ take (n - 0) (take (length s - a) (drop a s)) ∷ lines (drop m s)
-line_step s a n m h e e2 =
-    let whole = take_rest s a in
-    let same : n ≡ length_up_to 10 (drop a s) = e ∙ ap (length_up_to 10) whole in
-    let back = drop-drop (n + 1) a s in
-    let none : n - 0 ≡ n = omega arith in
-    let far : a + n + 1 ≡ a + (n + 1) = omega arith in
-    rw (e2, whole, none, drop_min, far, ← back, same) (lines_step (drop a s) (rw (length-drop a s) (omega arith)))
+-- what is left past the first byte, if there is one
+pub past_first : (s : List ℕ) (o : Option (Bor (List ℕ))) (d : Bor (List ℕ)) → d.now ≡ [] → MatchOption o ((length s < 1) ⊎ (length s < length s)) (λ x. (1 ≤ length s) × (length s ≤ length s) × (x.now ≡ slice_range s 1 (length s)) × (length x.now + 1 ≡ length s)) → (unwrap_or o d).now ≡ drop 1 s
+past_first s None d e h = e ∙ sym (drop_all 1 s (⊎_elim (λ l. omega arith) (λ l. omega arith) h))
+past_first s (Some x) d e h = h.2 ∙ take_rest s 1
 
 -- the words of s from a on
 abbrev rest_words : List ℕ → ℕ → List (List ℕ)
 rest_words s a = cond (leb a (length s)) (words (drop a s)) []
 
 -- the word at a, and those after it
-word_step : (s : List ℕ) (a n : ℕ) → a ≤ length s → n ≡ length_up_to 32 (take (length s - a) (drop a s)) → rest_words s a ≡ take (n - 0) (take (length s - a) (drop a s)) ∷ rest_words s (a + (n + 1))
-word_step s a n h e =
-    let whole = take_rest s a in
-    let same : n ≡ length_up_to 32 (drop a s) = e ∙ ap (length_up_to 32) whole in
-    let test : leb (n + 1) (length (drop a s)) ≡ leb (a + (n + 1)) (length s) = rw (length-drop a s) (grind (arith, nat_tests)) in
-    let back = drop-drop (n + 1) a s in
-    let none : n - 0 ≡ n = omega arith in
-    rw (le-leb a (length s) h, whole, none, ← test, ← back, same) (pieces_step 32 (drop a s))
+word_step : (s r : List ℕ) (a n : ℕ) → a ≤ length s → r ≡ drop a s → n ≡ length_up_to 32 r → rest_words s a ≡ take n r ∷ rest_words s (a + (n + 1))
+word_step s r a n h is e =
+    let test : leb (n + 1) (length r) ≡ leb (a + (n + 1)) (length s) = rw (is, length-drop a s) (grind (arith, nat_tests)) in
+    let back : drop (n + 1) r ≡ drop (a + (n + 1)) s = ap (drop (n + 1)) is ∙ drop-drop (n + 1) a s in
+    rw (le-leb a (length s) h, ← is, ← test, ← back, e) (pieces_step 32 r)
 
 -- the same with columns
-pub placed_step : (s : List ℕ) (a n : ℕ) → a ≤ length s → n ≡ length_up_to 32 (take (length s - a) (drop a s)) → n ≤ length (take (length s - a) (drop a s)) → words_from a s ≡ (a + 1, take (n - 0) (take (length s - a) (drop a s))) ∷ words_from (a + (n + 1)) s
-placed_step s a n h e within =
-    let rest = take (length s - a) (drop a s) in
-    let long : length (take (n - 0) rest) ≡ n = ap (λ k. length (take k rest)) (omega arith) ∙ length-take-le n rest within in
-    let far : a + 1 + (length (take (n - 0) rest) + 1) ≡ a + (n + 1) + 1 = omega arith in
-    ap (placed (a + 1)) (word_step s a n h e) ∙ ap (λ k. (a + 1, take (n - 0) rest) ∷ placed k (rest_words s (a + (n + 1)))) far
+pub word_given : (s r : List ℕ) (a n : ℕ) → a ≤ length s → r ≡ slice_range s a (length s) → n ≡ length_up_to 32 r → words_from a s ≡ (a + 1, take n r) ∷ words_from (a + (n + 1)) s
+word_given s r a n h is e =
+    let long : length (take n r) ≡ n = rw e (length-prefix_len _ r) in
+    let far : a + 1 + (length (take n r) + 1) ≡ a + (n + 1) + 1 = omega arith in
+    ap (placed (a + 1)) (word_step s r a n h (is ∙ take_rest s a) e) ∙ ap (λ k. (a + 1, take n r) ∷ placed k (rest_words s (a + (n + 1)))) far
+
+-- a call that gives a line or a word comes nearer to the end
+pub line_goes : (r : Reader) (line : Option Line) (r' : Reader) → GivesLine r line r' → MakesProgress (λ _. ⊤) (item_count lines_left) r line r'
+line_goes r None r' g = record { on = λ _. tt; keeps = tt; rests = λ _. tt }
+line_goes r (Some line) r' g = record { on = λ _. (tt, tt, omega (arith, ap length g.given)); keeps = tt; rests = λ _. tt }
+
+pub word_goes : (l : Line) (word : Option Part) (l' : Line) → GivesWord l word l' → MakesProgress (λ _. ⊤) (item_count words_left) l word l'
+word_goes l None l' g = record { on = λ _. tt; keeps = tt; rests = λ _. tt }
+word_goes l (Some word) l' g = record { on = λ _. (tt, tt, omega (arith, ap length g.given)); keeps = tt; rests = λ _. tt }

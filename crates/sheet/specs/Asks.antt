@@ -8,6 +8,7 @@ use Rattle.sheet.specs.Letters.{effect_of}
 use Rattle.sheet.specs.Numbers.{number_of}
 use Rattle.sheet.specs.declared.fault.Place.{Place}
 use Rattle.sheet.specs.declared.fault.WordFault.{WordFault}
+use Rattle.sheet.specs.declared.letters.Alphabet.{Alphabet}
 use Rattle.sheet.specs.declared.fault.WordFault.TheVariants.{Unknown, Number, Letters}
 
 -- the place of a word
@@ -22,9 +23,9 @@ fixed_at fixed line w = cond (bytes_eq w.1 fixed) (Ok tt) (Err (Unknown (place_a
 abbrev pub number_at : ℕ → ℕ × List ℕ → Result ℕ WordFault
 number_at line w = ok_or (number_of w.1) (Number (place_at line w))
 
--- a word that is to be a letter group of n1 whole-plot and n2 subplot factors
-abbrev pub effect_at : ℕ → ℕ → ℕ → ℕ × List ℕ → Result ℕ WordFault
-effect_at n1 n2 line w = ok_or (effect_of n1 n2 w.1) (Letters (place_at line w))
+-- a word that is to be a letter group of a plan's factors
+abbrev pub effect_at : Alphabet → ℕ → ℕ × List ℕ → Result ℕ WordFault
+effect_at a line w = ok_or (effect_of a w.1) (Letters (place_at line w))
 
 example_number : number_at 1 (8, codes "10000") ≡ Err (Number (record { line = 1; column = 8 }))
 example_number = refl

@@ -1,18 +1,18 @@
 //! Faults of words, of lines and of sheets. Each is carried whole into the next.
 ghost use Rattle.std.specs.Prelude.{◌≡◌};
-ghost use Rattle.sheet.specs.Faults.{fault_number, fault_place};
+ghost use Rattle.sheet.specs.Faults.{fault_number, word_place, fault_place};
 ghost use Rattle.sheet.specs.declared.fault.LineFault.TheVariants as lf;
 ghost use Rattle.sheet.specs.declared.fault.SheetFault.TheVariants as sf;
 
-/// Where in the sheet a fault lies; both count from 1.
-#[derive(Clone, Copy)]
+/// Where in the sheet a word or a fault lies; both count from 1.
+#[derive(Clone, Copy, Debug, PartialEq, Eq)]
 pub struct Place {
     pub line: usize,
     pub column: usize,
 }
 
 /// What is wrong with a word, and where the word begins.
-#[derive(Clone, Copy)]
+#[derive(Clone, Copy, Debug, PartialEq, Eq)]
 pub enum WordFault {
     /// It is not the fixed word, or none of the fixed words, that its place asks for.
     Unknown(Place),
@@ -23,7 +23,7 @@ pub enum WordFault {
 }
 
 /// What is wrong with a line.
-#[derive(Clone, Copy)]
+#[derive(Clone, Copy, Debug, PartialEq, Eq)]
 pub enum LineFault {
     Word(WordFault),
     /// It has more words than it should, or fewer.
@@ -31,7 +31,7 @@ pub enum LineFault {
 }
 
 /// What is wrong with a sheet.
-#[derive(Clone, Copy)]
+#[derive(Clone, Copy, Debug, PartialEq, Eq)]
 pub enum SheetFault {
     /// It is too long, or its last line has no line feed.
     Form,
@@ -54,6 +54,17 @@ impl From<LineFault> for SheetFault {
     }
 }
 
+impl WordFault {
+    /// Where the word begins.
+    pub fn place(self) -> Place
+        ensures { result ≡ word_place self }
+    {
+        match self {
+            Self::Unknown(place) | Self::Number(place) | Self::Letters(place) => place,
+        }
+    }
+}
+
 impl SheetFault {
     /// The number that an answer names the fault by.
     pub fn number(self) -> u8
@@ -68,16 +79,15 @@ impl SheetFault {
         }
     }
 
-    /// Where the fault lies: where its word begins, else column 1 of its line, and line 1 for the whole sheet.
+    /// Where the fault lies: where its word begins, else column 1 of its line, and line 1 for the
+    /// whole sheet.
     pub fn place(self) -> Place
         ensures { result ≡ fault_place self }
     {
         match self {
             SheetFault::Form => Place { line: 1, column: 1 },
             SheetFault::Line(LineFault::Count { line }) => Place { line, column: 1 },
-            SheetFault::Line(LineFault::Word(WordFault::Unknown(place))) => place,
-            SheetFault::Line(LineFault::Word(WordFault::Number(place))) => place,
-            SheetFault::Line(LineFault::Word(WordFault::Letters(place))) => place,
+            SheetFault::Line(LineFault::Word(fault)) => fault.place(),
         }
     }
 }

@@ -4,12 +4,16 @@ ghost use Rattle.sheet.specs.Forms.{form_check};
 
 use crate::fault::SheetFault;
 
+/// The most bytes that a sheet may have.
+pub const MOST_BYTES: usize = 4096;
+
 /// Whether a sheet has at most 4,096 bytes and each of its lines ends with a line feed.
 pub fn well_formed(sheet: &[u8]) -> Result<(), SheetFault>
     ensures { result ≡ form_check sheet.now }
 {
-    if sheet.len() > 4096 || (!sheet.is_empty() && sheet[sheet.len() - 1] != b'\n') {
-        return Err(SheetFault::Form);
+    if sheet.len() <= MOST_BYTES && sheet.last().is_none_or(|end| *end == b'\n') {
+        Ok(())
+    } else {
+        Err(SheetFault::Form)
     }
-    Ok(())
 }

@@ -1,8 +1,9 @@
 //! Letters of factors, and letter groups of effects.
 ghost use Rattle.std.specs.Prelude.{◌≡◌, ◌≤◌};
-ghost use Rattle.text.specs.Texts.{written, ended};
+ghost use Rattle.text.specs.Texts.{written};
 ghost use Rattle.sheet.specs.Letters.{factor, effect_of, letter_of, letters_of, LettersStand};
 
+use few::Few;
 use text::put_bytes;
 
 /// A letter group that was printed is read back as the same effect.
@@ -10,44 +11,50 @@ pub fn letters_stand()
     ensures { LettersStand }
 {}
 
-// The factor that a letter stands for.
-fn factor_of(n1: u8, n2: u8, letter: u8) -> Option<u8>
-    ensures { result ≡ factor n1 n2 letter }
-{
-    if n1 > 9 || n2 > 9 || n1 + n2 > 16 {
-        None
-    } else if letter >= b'A' && letter < b'A' + n1 {
-        Some(letter - b'A')
-    } else if letter >= b'p' && letter < b'p' + n2 {
-        Some(n1 + (letter - b'p'))
-    } else {
-        None
-    }
+/// How many factors of each kind a plan has, which settles their letters.
+#[derive(Clone, Copy, Debug, PartialEq, Eq)]
+pub struct Alphabet {
+    /// Whole-plot factors, lettered from A on.
+    pub n1: u8,
+    /// Subplot factors, lettered from p on.
+    pub n2: u8,
 }
 
-/// The effect that a letter group writes: at least one letter, each of another factor, in factor order.
-pub fn effect(n1: u8, n2: u8, bytes: &[u8]) -> Option<u16>
-    ensures { result ≡ effect_of n1 n2 bytes.now }
-{
-    if bytes.is_empty() {
-        return None;
-    }
-    let mut next = 0u8;
-    let mut effect = 0u16;
-    for letter in bytes {
-        let Some(factor) = factor_of(n1, n2, *letter) else {
-            return None;
-        };
-        if factor < next {
+impl Alphabet {
+    // The factor that a letter stands for.
+    fn factor_of(self, letter: u8) -> Option<u8>
+        ensures { result ≡ factor self letter }
+    {
+        if self.n1 > 9 || self.n2 > 9 || self.n1 + self.n2 > 16 {
             return None;
         }
-        effect |= 1 << factor;
-        next = factor + 1;
+        let whole_plot = letter.checked_sub(b'A').filter(|factor| *factor < self.n1);
+        let subplot = letter.checked_sub(b'p').filter(|factor| *factor < self.n2);
+        whole_plot.or(subplot.map(|factor| self.n1 + factor))
     }
-    Some(effect)
+
+    /// The effect that a letter group writes: at least one letter, each of another factor, in factor order.
+    pub fn effect(self, bytes: &[u8]) -> Option<u16>
+        ensures { result ≡ effect_of self bytes.now }
+    {
+        if bytes.is_empty() {
+            return None;
+        }
+        let mut next = 0u8;
+        let mut effect = 0u16;
+        for letter in bytes {
+            let factor = self.factor_of(*letter)?;
+            if factor < next {
+                return None;
+            }
+            effect |= 1 << factor;
+            next = factor + 1;
+        }
+        Some(effect)
+    }
 }
 
-/// The letter of a factor: A and on for the `n1` whole-plot factors, p and on for the subplot factors.
+/// The letter of a factor: A and on for the `n1` whole-plot factors, p and on for the others.
 /// Past the sixteenth factor, which no effect has, it is a question mark.
 pub fn letter(n1: u8, factor: u8) -> u8
     ensures { result ≡ letter_of n1 factor }
@@ -61,24 +68,19 @@ pub fn letter(n1: u8, factor: u8) -> u8
     }
 }
 
-/// Writes the letters of an effect's factors into `out` from `at` on, `0` for the mean, and tells where they end.
-/// Where they do not fit, it changes nothing and tells `at`.
-pub fn put_letters(out: &mut [u8], at: usize, n1: u8, effect: u16) -> usize
-    ensures value { result ≡ ended out.old at (letters_of n1 effect) }
-    ensures after { out.new ≡ written out.old at (letters_of n1 effect) }
+/// Adds the letters of an effect's factors to a text, `0` for the mean; where they do not fit, it
+/// changes nothing. Of the numbers of factors `n1` alone tells letters apart.
+pub fn put_letters<const CAP: usize>(text: &mut Few<u8, CAP>, n1: u8, effect: u16)
+    ensures { text.new.items ≡ written CAP text.old.items (letters_of n1 effect) }
 {
     if effect == 0 {
-        return put_bytes(out, at, b"0");
+        return put_bytes(text, b"0");
     }
-    let mut group = [0u8; 16];
-    let mut length = 0usize;
-    let mut rest = effect;
-    for factor in 0..16u8 {
-        if rest % 2 == 1 {
-            group[length] = letter(n1, factor);
-            length += 1;
+    let mut group = Few::<u8, 16>::new(b' ');
+    for factor in 0..16 {
+        if (effect >> factor) % 2 == 1 {
+            let _ = group.push(letter(n1, factor));
         }
-        rest /= 2;
     }
-    put_bytes(out, at, &group[0..length])
+    put_bytes(text, group.as_slice());
 }

@@ -1,4 +1,5 @@
-//! The order sheet: its lines and words, numbers and letter groups, and its faults. No byte of the sheet is copied.
+//! The order sheet: its lines and words, numbers and letter groups, and its faults. No byte of the
+//! sheet is copied.
 
 #![tactic(auto)]
 

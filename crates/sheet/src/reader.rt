@@ -1,19 +1,18 @@
 //! The reader of a sheet and the lines that it gives. Their methods stand in `walk`.
-ghost use Rattle.std.specs.Prelude.{◌≡◌, ◌≤◌, length};
+ghost use Rattle.std.specs.Prelude.{◌+◌, ◌^◌, ◌<◌, length};
 
 pub mod walk;
 
 /// Walks over the lines of a lent sheet.
 #[derive(Drop)]
 pub struct Reader<'a> {
-    sheet: &'a [u8],
-    at: usize,
+    rest: &'a [u8],
     line: usize,
-    ghost within: { at ≤ length sheet.now },
-    ghost counted: { line ≤ at },
+    ghost counted: { line + length rest.now < 2 ^ 64 },
 }
 
-/// Walks over the words of one line.
+/// Walks over the words of one line. The next one begins at `at`, from which its column is counted, so
+/// what is left is not kept beside it.
 #[derive(Drop)]
 pub struct Line<'a> {
     bytes: &'a [u8],

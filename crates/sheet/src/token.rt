@@ -1,45 +1,24 @@
 //! Parts of the sheet, and what their place in a line asks of them.
 ghost use Rattle.std.specs.Prelude.{◌≡◌};
-ghost use Rattle.std.specs.Str.{bytes_eq};
-ghost use Rattle.sheet.specs.Tokens.{place_of, fault_of, fixed_in, number_in, effect_in};
+ghost use Rattle.sheet.specs.Tokens.{fault_of, fixed_in, number_in, effect_in};
 
 use crate::fault::{Place, WordFault};
-use crate::letters::effect;
+use crate::letters::Alphabet;
 use crate::numbers::number;
 
-/// A part of the sheet, with the line and the column where it begins.
-#[derive(Clone, Copy)]
+/// A part of the sheet, and where it begins.
+#[derive(Clone, Copy, Debug, PartialEq, Eq)]
 pub struct Part<'a> {
     pub bytes: &'a [u8],
-    pub line: usize,
-    pub column: usize,
+    pub place: Place,
 }
 
 /// A part of the sheet that is to be a fixed word, a number or a letter group.
-#[derive(Clone, Copy)]
+#[derive(Clone, Copy, Debug, PartialEq, Eq)]
 pub enum Token<'a> {
     Word(Part<'a>),
     Number(Part<'a>),
     Letters(Part<'a>),
-}
-
-/// Whether a word is a fixed one, byte for byte.
-pub fn same(word: &[u8], fixed: &[u8]) -> bool
-    ensures { result ≡ bytes_eq word.now fixed.now }
-{
-    word == fixed
-}
-
-impl Part<'_> {
-    /// Where the part begins.
-    pub fn place(self) -> Place
-        ensures { result ≡ place_of self.entry }
-    {
-        Place {
-            line: self.line,
-            column: self.column,
-        }
-    }
 }
 
 impl Token<'_> {
@@ -48,9 +27,9 @@ impl Token<'_> {
         ensures { result ≡ fault_of self.entry }
     {
         match self {
-            Token::Word(part) => WordFault::Unknown(part.place()),
-            Token::Number(part) => WordFault::Number(part.place()),
-            Token::Letters(part) => WordFault::Letters(part.place()),
+            Token::Word(part) => WordFault::Unknown(part.place),
+            Token::Number(part) => WordFault::Number(part.place),
+            Token::Letters(part) => WordFault::Letters(part.place),
         }
     }
 
@@ -59,7 +38,7 @@ impl Token<'_> {
         ensures { result ≡ fixed_in word.now self.entry }
     {
         match self {
-            Token::Word(part) if same(part.bytes, word) => Ok(()),
+            Token::Word(part) if part.bytes == word => Ok(()),
             _ => Err(self.fault()),
         }
     }
@@ -74,12 +53,12 @@ impl Token<'_> {
         }
     }
 
-    /// The effect that the token writes, of a plan with `n1` whole-plot and `n2` subplot factors.
-    pub fn effect(self, n1: u8, n2: u8) -> Result<u16, WordFault>
-        ensures { result ≡ effect_in n1 n2 self.entry }
+    /// The effect that the token writes with a plan's letters.
+    pub fn effect(self, alphabet: Alphabet) -> Result<u16, WordFault>
+        ensures { result ≡ effect_in alphabet self.entry }
     {
         match self {
-            Token::Letters(part) => effect(n1, n2, part.bytes).ok_or(self.fault()),
+            Token::Letters(part) => alphabet.effect(part.bytes).ok_or(self.fault()),
             _ => Err(self.fault()),
         }
     }

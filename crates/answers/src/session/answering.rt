@@ -1,13 +1,14 @@
 //! The answers of a session.
 
 ghost use Rattle.std.specs.Prelude.{◌≡◌, ◌<◌, ◌≤◌, length, IfOk};
+ghost use Rattle.std.specs.Iterator.{at_most};
 ghost use Rattle.sheet.specs.Cuts.{lines, numbered};
 ghost use Rattle.sheet.specs.Left.{lines_left};
-ghost use Rattle.spelling.specs.Spelled.{answer_text};
-ghost use Rattle.answers.specs.Sessions.{first_stage, Taken, Answered};
+ghost use Rattle.answers.specs.Sessions.{first_stage, Told, Gives, most_left, Answered};
 
 use super::Session;
 use crate::stage::Stage;
+use sheet::fault::SheetFault;
 use sheet::form::well_formed;
 use sheet::reader::Reader;
 use spelling::answer::Answer;
@@ -29,32 +30,14 @@ impl<'a> Session<'a> {
         }
     }
 
-    /// Takes the next line and answers it; past the end the answer is nothing.
-    fn take(&mut self) -> Answer
-        ensures { Taken self.old result self.new }
+    // Tells an outcome and goes on to the stage after it. A fault ends the sheet.
+    fn tell(&mut self, outcome: Result<(Answer, Stage), SheetFault>) -> Answer
+        ensures told { Told outcome result self.new.stage }
+        ensures reader { self.new.reader ≡ self.old.reader }
     {
-        let stage = self.stage;
-        match stage {
-            Stage::Over => return Answer::Nothing,
-            Stage::Unread(fault) => {
-                self.stage = Stage::Over;
-                return Answer::Fault(fault);
-            }
-            _ => {}
-        }
-        let Some(line) = self.reader.next_line() else {
-            return Answer::Nothing;
-        };
-        match stage.read(line) {
-            Ok((answer, after)) => {
-                self.stage = after;
-                answer
-            }
-            Err(fault) => {
-                self.stage = Stage::Over;
-                Answer::Fault(fault)
-            }
-        }
+        let (answer, after) = outcome.unwrap_or_else(|fault| (Answer::Fault(fault), Stage::Over));
+        self.stage = after;
+        answer
     }
 
     /// Writes the answer to the next line into the buffer, past the end nothing, and tells its length.
@@ -67,6 +50,26 @@ impl<'a> Session<'a> {
         if out.len() < 1024 {
             return Err(Refusal::ShortBuffer);
         }
-        self.take().put(out)
+        self.next().unwrap_or(Answer::Nothing).put(out)
+    }
+}
+
+impl Iterator for Session<'_> {
+    type Item = Answer;
+
+    ghost next_gives = { Gives };
+
+    ghost remaining = { λ session. at_most (most_left session) };
+
+    /// Takes the next line and answers it; past the end there is no answer.
+    fn next(&mut self) -> Option<Answer> {
+        match self.stage {
+            Stage::Over => None,
+            Stage::Unread(fault) => Some(self.tell(Err(fault))),
+            stage => {
+                let line = self.reader.next()?;
+                Some(self.tell(stage.read(line)))
+            }
+        }
     }
 }

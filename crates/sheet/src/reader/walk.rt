@@ -1,9 +1,11 @@
 //! The walk over lines and words.
-ghost use Rattle.std.specs.Prelude.{◌≡◌, ℕ, ◌+◌, ◌-◌, ◌<◌, ◌≤◌, [], ◌∷◌, length, MatchOption};
-ghost use Rattle.sheet.specs.Cuts.{length_up_to, words, lines, placed, numbered, WordsStand, LinesStand};
-ghost use Rattle.sheet.specs.Left.{lines_left, words_left};
+ghost use Rattle.std.specs.Prelude.{◌≡◌, ◌≤◌, length};
+ghost use Rattle.std.specs.Iterator.{item_count};
+ghost use Rattle.sheet.specs.Cuts.{length_up_to, lines, numbered, WordsStand, LinesStand};
+ghost use Rattle.sheet.specs.Left.{lines_left, words_left, GivesLine, GivesWord};
 
 use super::{Line, Reader};
+use crate::fault::{LineFault, Place};
 use crate::token::Part;
 
 /// Cutting a line at every space loses nothing, and no word holds a space.
@@ -21,41 +23,37 @@ fn up_to(s: &[u8], b: u8) -> usize
     ensures value { result ≡ length_up_to b s.now }
     ensures within { result ≤ length s.now }
 {
-    for (i, x) in s.iter().enumerate() {
-        if *x == b {
-            return i;
-        }
-    }
-    s.len()
+    s.iter().take_while(|x| **x != b).count()
 }
 
 impl<'a> Reader<'a> {
     /// A reader at the start of a sheet.
     pub fn new(sheet: &'a [u8]) -> Reader<'a>
         ensures lines { lines_left result ≡ numbered 1 (lines sheet.now) }
-        ensures sheet { result.sheet.now ≡ sheet.now }
+        ensures sheet { result.rest.now ≡ sheet.now }
         ensures line { result.line ≡ 0 }
     {
         Reader {
-            sheet,
-            at: 0,
+            rest: sheet,
             line: 0,
         }
     }
+}
+
+impl<'a> Iterator for Reader<'a> {
+    type Item = Line<'a>;
+
+    ghost next_gives = { GivesLine };
+
+    ghost remaining = { item_count lines_left };
 
     /// The next line, which ends before the next line feed, or `None` past the last.
-    pub fn next_line(&mut self) -> Option<Line<'a>>
-        ensures given { MatchOption result (lines_left self.old ≡ []) (λ l. lines_left self.old ≡ (l.number, l.bytes.now) ∷ lines_left self.new) }
-        ensures whole { MatchOption result (self.new ≡ self.old) (λ l. (words_left l ≡ placed 1 (words l.bytes.now)) × (self.new.line ≡ l.number)) }
-        ensures sheet { self.new.sheet.now ≡ self.old.sheet.now }
-    {
-        if self.at >= self.sheet.len() {
+    fn next(&mut self) -> Option<Line<'a>> {
+        if self.rest.is_empty() {
             return None;
         }
-        let rest = &self.sheet[self.at..];
-        let n = up_to(rest, b'\n');
-        let bytes = &rest[0..n];
-        self.at = (self.at + n + 1).min(self.sheet.len());
+        let (bytes, rest) = self.rest.split_at(up_to(self.rest, b'\n'));
+        self.rest = rest.get(1..).unwrap_or(&[]);
         self.line += 1;
         Some(Line {
             bytes,
@@ -73,22 +71,31 @@ impl<'a> Line<'a> {
         self.number
     }
 
-    /// The next word, which ends before the next space, or `None` past the last.
-    pub fn next_word(&mut self) -> Option<Part<'a>>
-        ensures given { MatchOption result (words_left self.old ≡ []) (λ w. words_left self.old ≡ (w.column, w.bytes.now) ∷ words_left self.new) }
-        ensures place { MatchOption result (self.new ≡ self.old) (λ w. w.line ≡ self.old.number) }
-        ensures line { self.new.bytes.now ≡ self.old.bytes.now }
-        ensures number { self.new.number ≡ self.old.number }
+    /// The fault of a line that has more words than it should, or fewer.
+    pub fn count_fault(&self) -> LineFault
+        ensures { result ≡ LineFault.Count self.now.number }
     {
-        if self.at > self.bytes.len() {
-            return None;
-        }
-        let rest = &self.bytes[self.at..];
+        LineFault::Count { line: self.number }
+    }
+}
+
+impl<'a> Iterator for Line<'a> {
+    type Item = Part<'a>;
+
+    ghost next_gives = { GivesWord };
+
+    ghost remaining = { item_count words_left };
+
+    /// The next word, which ends before the next space, or `None` past the last.
+    fn next(&mut self) -> Option<Part<'a>> {
+        let rest = self.bytes.get(self.at..)?;
         let n = up_to(rest, b' ');
         let word = Part {
-            bytes: &rest[0..n],
-            line: self.number,
-            column: self.at + 1,
+            bytes: &rest[..n],
+            place: Place {
+                line: self.number,
+                column: self.at + 1,
+            },
         };
         self.at += n + 1;
         Some(word)
