@@ -5,6 +5,7 @@ ghost use Rattle.std.specs.Option.{ok_or};
 ghost use Rattle.spelling.specs.Spelled.{answer_text};
 ghost use Rattle.answers.specs.Obeyed.{Obeyed, alphabet_of, plan_of, outcome_text, chain_told};
 
+use few::Few;
 use key::Key;
 use lines::command::Command;
 use planner::planner::Planner;
@@ -23,12 +24,13 @@ pub struct Desk {
 fn chain_of(key: Key, effect: u16) -> Result<Answer, Refusal>
     ensures { (line : ℕ) → outcome_text result line ≡ chain_told key effect line }
 {
-    let mut list = [0; 32];
-    let size = key.chain(effect, &mut list)?;
+    let mut chain = [0; 32];
+    let size = key.chain(effect, &mut chain)?;
+    let mut list = Few::new(0);
+    list.append(&chain[..size]).unwrap();
     Ok(Answer::Chain(Effects {
         n1: key.shape().n1,
         list,
-        size,
     }))
 }
 
