@@ -1,9 +1,8 @@
 //! An opened trial at its planner, and what its orders are answered.
 
 ghost use Rattle.std.specs.Prelude.{◌≡◌, ℕ};
-ghost use Rattle.std.specs.Option.{ok_or};
 ghost use Rattle.spelling.specs.Spelled.{answer_text};
-ghost use Rattle.answers.specs.Obeyed.{Obeyed, alphabet_of, plan_of, outcome_text, chain_told};
+ghost use Rattle.answers.specs.Obeyed.{Obeyed, alphabet_of, outcome_text, chain_told};
 
 use few::Few;
 use key::Key;
@@ -21,8 +20,8 @@ pub struct Desk {
 }
 
 /// The chain of an effect in a plan.
-fn chain_of(key: Key, effect: u16) -> Result<Answer, Refusal>
-    ensures { (line : ℕ) → outcome_text result line ≡ chain_told key effect line }
+fn chain_of(key: &Key, effect: u16) -> Result<Answer, Refusal>
+    ensures { (line : ℕ) → outcome_text result line ≡ chain_told key.now effect line }
 {
     let mut chain = [0; 32];
     let size = key.chain(effect, &mut chain)?;
@@ -46,21 +45,14 @@ impl Desk {
         }
     }
 
-    // The standing plan, where there is one.
-    fn plan(&self) -> Result<Key, Refusal>
-        ensures { result ≡ ok_or (plan_of self.now) Refusal.NoPlan }
-    {
-        self.planner.plan().ok_or(Refusal::NoPlan)
-    }
-
     // What an order comes to.
     fn outcome(&mut self, command: Command) -> Result<Answer, Refusal>
         ensures { (line : ℕ) → Obeyed self.old command line (outcome_text result line) self.new }
     {
         match command {
             Command::Find => self.planner.find().map(Answer::Plan),
-            Command::Layout => self.plan().map(Answer::Rows),
-            Command::Chain(effect) => chain_of(self.plan()?, effect),
+            Command::Layout => self.planner.standing_plan().map(|plan| Answer::Rows(*plan)),
+            Command::Chain(effect) => chain_of(self.planner.standing_plan()?, effect),
         }
     }
 

@@ -15,8 +15,8 @@ use theory::stratum::Stratum;
 use theory::tally::Tally;
 
 impl<R: Ranking> Planner<R> {
-    /// The standing plan, of which the questions are asked.
-    fn standing_plan(&self) -> Result<&Key, Refusal>
+    /// The standing plan, of which the questions are asked; refused where none stands.
+    pub fn standing_plan(&self) -> Result<&Key, Refusal>
         ensures { MatchResult result (λ plan. self.now.plan ≡ Some plan.now) (λ why. (self.now.plan ≡ None) × (why ≡ NoPlan)) }
     {
         self.plan.as_ref().ok_or(Refusal::NoPlan)
