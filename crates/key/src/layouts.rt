@@ -8,6 +8,7 @@ ghost use Rattle.key.specs.Questions.{signs_of, row_of, plot_of, layout_of, layo
 
 use super::Key;
 use super::asking::sign_of;
+use super::filling::fill;
 use few::Few;
 use opening::Shape;
 use text::{put_bytes, put_number};
@@ -103,12 +104,6 @@ impl Key {
         ensures buffer { out.new ≡ filled result (layout_of self.now) out.old }
         ensures bound { length (layout_of self.now) ≤ 544 }
     {
-        let text = self.rows();
-        let rows = text.as_slice();
-        if out.len() < rows.len() {
-            return Err(Refusal::ShortBuffer);
-        }
-        out[..rows.len()].copy_from_slice(rows);
-        Ok(rows.len())
+        fill(out, self.rows().as_slice())
     }
 }
