@@ -2,11 +2,12 @@
 --
 -- There are w whole-plot unit factors W and s subplot unit factors S, n1 whole-plot factors and then n2 subplot factors.
 use Rattle.std.specs.Prelude.{◌≡◌, ℕ, zero, suc, ◌+◌, ◌-◌, ◌/◌, ◌%◌, ◌^◌, ◌≤◌, Bool, true, false, cond, ◌&&◌, List, [], ◌∷◌, ◌++◌, length, Some, None, Option, ◌==◌, nat_le, nat_lt, refl}
+use Rattle.std.specs.List.{list_any}
 use Rattle.opening.specs.declared.Shape.{Shape}
 use Rattle.opening.specs.Shapes.{factors_of}
 use Rattle.figures.specs.declared.counts.Counts.{Counts}
 use Rattle.figures.specs.Counted.{columns_in}
-use Rattle.finding.specs.declared.opened.Opened.{Opened}
+use Rattle.finding.specs.declared.begun.Opened.{Opened}
 
 -- no unit factor is open
 abbrev pub none_open : Opened
@@ -35,12 +36,7 @@ after w s o c =
 
 -- c is one of the columns
 abbrev pub held : ℕ → List ℕ → Bool
-held c [] = false
-held c (d ∷ ds) = cond (c == d) true (held c ds)
-
--- the bit at place c says whether c is one of the columns
-abbrev pub Marks : ℕ → List ℕ → Type 0
-Marks used cs = (c : ℕ) → used / 2 ^ c % 2 ≡ cond (held c cs) 1 0
+held c cs = list_any (λ d. d == c) cs
 
 -- the word c lies in the layer of factor i, counted from 0
 abbrev pub is_in_layer : (w n1 i c : ℕ) → Bool
