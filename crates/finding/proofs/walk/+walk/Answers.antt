@@ -1,4 +1,4 @@
-use Rattle.std.proofs.Common.{ℕ, ◌^◌, ◌<◌, true, false, List, ◌++◌, sym, ◌∙◌, subst, subst₂, append-nil, arith, rules}
+use Rattle.std.proofs.Common.{ℕ, ◌^◌, ◌<◌, true, false, List, ◌++◌, refl, sym, ◌∙◌, subst, subst₂, append-nil, arith, rules}
 use Rattle.opening.specs.declared.Shape.{Shape}
 use Rattle.opening.specs.Shapes.{units_of}
 use Rattle.finding.specs.Walks.{keys_after, branch_after, upto}
@@ -11,7 +11,7 @@ returns-then-is_late g t c u keys h =
     let begun = c.args.begun.now in
     elim c.then-is_late.branch [
       | then-is_late-via-then-is_late w ↦ subst (λ ks. g.V.Visit.saw begun.counts.shape u ks c.args.visitor.now) (none_late begun keys (sym c.is_late.ensures ∙ w.if-is_late.true)) h
-      | then-is_late-via-else-is_late+then-leave w ↦ w.if-leave.ensures tt u keys (keys_after begun.counts begun.opened) (all_begin begun) h
+      | then-is_late-via-else-is_late+then-leave w ↦ w.if-leave.ensures refl u keys (keys_after begun.counts begun.opened) (all_begin begun) h
     ]
 
 pub walk-requires : goal.walk-requires
