@@ -1,5 +1,5 @@
 -- Keys that fail no standing wish, and what is kept of them.
-use Rattle.std.proofs.Common.{◌≡◌, ℕ, Bool, true, false, cond, ◌↔◌, List, [], ◌∷◌, ◌++◌, length, take, All, Some, None, MatchBool, MatchOption, Option, sym, refl, ap, ◌∙◌, subst, subst₂, inl, inr, append-nil, arith, length-append}
+use Rattle.std.proofs.Common.{◌≡◌, ℕ, Bool, true, false, cond, ◌↔◌, List, [], ◌∷◌, ◌++◌, length, take, All, Some, None, MatchBool, MatchOption, Option, sym, ap, ◌∙◌, subst, subst₂, inl, inr, append-nil, arith, length-append}
 use lib.Seq.{take-append_seam}
 use Rattle.std.proofs.lemmas.List.Elements.{All-weaker}
 use Rattle.std.proofs.lemmas.Bool.Decides.{when_true, when_false}

@@ -1,5 +1,5 @@
 -- One step of the walk.
-use Rattle.std.proofs.Common.{◌≡◌, ℕ, zero, suc, ◌+◌, ◌-◌, ◌/◌, ◌%◌, ◌^◌, ◌<◌, Bool, true, false, cond, ◌||◌, eqb, ◌≢◌, List, [], ◌∷◌, ◌++◌, sym, refl, ap, ◌∙◌, ap₂, pow-suc, arith, pow_pos, pow-add, eq-eqb}
+use Rattle.std.proofs.Common.{◌≡◌, ℕ, zero, suc, ◌+◌, ◌-◌, ◌^◌, ◌<◌, false, cond, ◌||◌, eqb, ◌≢◌, List, [], ◌∷◌, ◌++◌, refl, arith}
 use Rattle.std.proofs.lemmas.List.Recursion.{or_push}
 use Rattle.finding.specs.declared.begun.Opened.{Opened}
 use Rattle.finding.specs.Walks.{is_all, held, upto, keys_from, branch}
