@@ -199,6 +199,9 @@ module _ (i j : ℕ) (order : i < j) where
   pub least_exchanged : (r : ℕ) → Least r ≡ wish_exchanged i j (Least r)
   least_exchanged r = sym (over_mapped (j - suc i) i (Least r))
 
+-- what `grind` needs of a wish with two factors exchanged
+pub ruleset exchanges = (clear_exchanged, apart_exchanged, fine_exchanged, word_exchanged, least_exchanged)
+
 -- ---- two factors
 
 -- the layers of factors are those of their neighbours all along

@@ -19,6 +19,7 @@ fn exchanged_effect(effect: u16, first: u8, second: u8) -> u16
 }
 
 /// The wish with these two factors exchanged.
+#[tactic(auto, using(crate::proofs::Turning::exchanges))]
 pub(crate) fn exchanged(wish: Wish, first: u8, second: u8) -> Wish
     requires order { first < second }
     requires within { second < 10 }
