@@ -1,8 +1,7 @@
 -- What the tests of one column say.
 use Rattle.std.proofs.Common.{◌≡◌, ℕ, ◌+◌, ◌/◌, ◌%◌, ◌^◌, ◌<◌, ◌≤◌, Bool, true, false, not, ◌&&◌, cond, eqb, ltb, ◌≢◌, ◌⊎◌, List, length, get_or, Some, None, Option, sym, refl, ap, ap₂, ◌∙◌, subst, inl, inr, arith, pow_pos, ltb-true, le-ltb, lt-ltb, eq-eqb, eqb-true, le-leb, leb-true}
-use borrow.Author.Tests.{eqb-false}
 use Rattle.std.specs.Option.{option_eq}
-use Rattle.std.proofs.lemmas.Bool.{cases_lt, cases_eq, lt-leb, and_parts, not-true}
+use Rattle.std.proofs.lemmas.Bool.{cases_lt, cases_eq, lt-leb, ne_eqb, eqb-false, and_parts, not-true}
 use Rattle.std.proofs.lemmas.Option.{none-some, same_Some}
 use Rattle.theory.specs.contracts.stratum.StratumPartialEq.TheImpl.{eq-value as equal}
 use Rattle.theory.specs.Strata.{stratum_named}
@@ -14,7 +13,6 @@ use Rattle.opening.specs.Shapes.{layers_of, homes_of, factors_of, stratum_in, ho
 use Rattle.opening.proofs.Homes.{home_named}
 use Rattle.finding.specs.declared.begun.Opened.{Opened}
 use Rattle.finding.specs.Walks.{Within, held, is_in_layer, after, next}
-use Rattle.finding.proofs.Steps.{eqb_no}
 
 -- the two tests of a column
 pub tests : (x y : Bool) (o : Option Opened) (p : Opened) → cond (x && not y) o None ≡ Some p → (x ≡ true) × (y ≡ false) × (o ≡ Some p)
@@ -69,7 +67,7 @@ module _ (w n1 i c : ℕ) where
   layer_sub l h = leb-true (2 ^ w) c (rw (le-ltb i n1 l) at h)
 
   pub whole_layer : i < n1 → c ≢ 0 → c < 2 ^ w → is_in_layer w n1 i c ≡ true
-  whole_layer l n h = rw (lt-ltb i n1 l, eqb_no c 0 n) (lt-ltb c (2 ^ w) h)
+  whole_layer l n h = rw (lt-ltb i n1 l, ne_eqb c 0 n) (lt-ltb c (2 ^ w) h)
 
   pub sub_layer : n1 ≤ i → 2 ^ w ≤ c → is_in_layer w n1 i c ≡ true
   sub_layer l h = rw (le-ltb i n1 l) (le-leb (2 ^ w) c h)
@@ -98,7 +96,7 @@ module _ (shape : Shape) (i c : ℕ) (within : i < factors_of shape) where
       go (inl h) (inl z) m = named 1 0 (whole h) (ap (stratum ws) z) ∙ sym (rw (lt-ltb i shape.n1 h, eq-eqb c 0 z) refl)
       go (inl h) (inr n) (inl l) = named 1 1 (whole h) (stratum_1 shape.w shape.s c n l) ∙ sym (whole_layer shape.w shape.n1 i c h n l)
       go (inl h) (inr n) (inr g) =
-          named 1 2 (whole h) (stratum_2 shape.w shape.s c g) ∙ sym (rw (lt-ltb i shape.n1 h, eqb_no c 0 n, le-ltb c (2 ^ shape.w) g) refl)
+          named 1 2 (whole h) (stratum_2 shape.w shape.s c g) ∙ sym (rw (lt-ltb i shape.n1 h, ne_eqb c 0 n, le-ltb c (2 ^ shape.w) g) refl)
       go (inr h) (inl z) m = named 2 0 (sub h) (ap (stratum ws) z) ∙ sym (rw (le-ltb i shape.n1 h, lt-leb (2 ^ shape.w) c (omega (arith, pow_pos shape.w))) refl)
       go (inr h) (inr n) (inl l) = named 2 1 (sub h) (stratum_1 shape.w shape.s c n l) ∙ sym (rw (le-ltb i shape.n1 h, lt-leb (2 ^ shape.w) c l) refl)
       go (inr h) (inr n) (inr g) = named 2 2 (sub h) (stratum_2 shape.w shape.s c g) ∙ sym (sub_layer shape.w shape.n1 i c h g)

@@ -1,12 +1,11 @@
 -- Columns that may stand one after another are words of their layers, each new; and the way back.
 use Rattle.std.proofs.Common.{◌≡◌, ℕ, zero, suc, ◌+◌, ◌^◌, ◌<◌, true, false, eqb, ◌≢◌, List, [], ◌∷◌, ◌++◌, length, get_or, sym, refl, ◌∙◌, subst, add-zero, add-one, arith}
-use borrow.Author.Tests.{eqb-false}
-use Rattle.std.proofs.lemmas.Bool.{or_parts}
+use Rattle.std.proofs.lemmas.Bool.{or_parts, ne_eqb, eqb-false}
 use Rattle.std.proofs.lemmas.List.{length_push}
 use Rattle.theory.specs.Plots.{Read, end, opens_s, opens_w, opens_none}
 use Rattle.finding.specs.declared.begun.Opened.{Opened}
 use Rattle.finding.specs.Walks.{held, is_in_layer, after}
-use Rattle.finding.proofs.Steps.{held_more, eqb_no}
+use Rattle.finding.proofs.Steps.{held_more}
 use Rattle.finding.proofs.Members.{Goes}
 use Rattle.finding.proofs.Columns.{tests, Move, by_s, by_w, by_none, after_move, move_after}
 
@@ -25,7 +24,7 @@ module _ (w s n1 : ℕ) where
   tail_facts used c cs f = record {
     words = λ i l. f.words (suc i) (omega arith);
     layer = λ i l. subst (λ (k : ℕ). is_in_layer w n1 k (get_or cs i 0) ≡ true) (sym (push_at used c i)) (f.layer (suc i) (omega arith));
-    fresh = λ i l. rw (held_more (get_or cs i 0) c used, f.fresh (suc i) (omega arith)) (eqb_no c (get_or cs i 0) (f.apart 0 (suc i) (omega arith) (omega arith)));
+    fresh = λ i l. rw (held_more (get_or cs i 0) c used, f.fresh (suc i) (omega arith)) (ne_eqb c (get_or cs i 0) (f.apart 0 (suc i) (omega arith) (omega arith)));
     apart = λ i j l m. f.apart (suc i) (suc j) (omega arith) (omega arith);
   }
 

@@ -1,12 +1,8 @@
 -- One step of the walk.
-use Rattle.std.proofs.Common.{◌≡◌, ℕ, zero, suc, ◌+◌, ◌-◌, ◌^◌, ◌<◌, false, cond, ◌||◌, eqb, ◌≢◌, List, [], ◌∷◌, ◌++◌, refl, arith}
+use Rattle.std.proofs.Common.{◌≡◌, ℕ, zero, suc, ◌+◌, ◌-◌, ◌^◌, ◌<◌, cond, ◌||◌, eqb, List, [], ◌∷◌, ◌++◌, refl, arith}
 use Rattle.std.proofs.lemmas.List.Recursion.{or_push}
 use Rattle.finding.specs.declared.begun.Opened.{Opened}
 use Rattle.finding.specs.Walks.{is_all, held, upto, keys_from, branch}
-
--- a test that is known to fail
-pub eqb_no : (x y : ℕ) → x ≢ y → eqb x y ≡ false
-eqb_no x y n = grind arith
 
 -- ---- a leaf and a node
 module _ (w s n1 : ℕ) (used : List ℕ) (o : Opened) where

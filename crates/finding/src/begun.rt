@@ -9,7 +9,7 @@ use figures::counts::Counts;
 use opening::Shape;
 
 /// How many unit factors of each layer are open, always the first ones.
-#[derive(Clone, Copy, Debug, PartialEq, Eq)]
+#[derive(Clone, Copy, Debug, PartialEq, Eq, Hash)]
 pub struct Opened {
     pub whole: u8,
     pub sub: u8,
