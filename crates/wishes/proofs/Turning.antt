@@ -8,7 +8,7 @@ use Rattle.std.specs.List.{list_all}
 use Rattle.std.proofs.lemmas.Bool.Decides.{Decides-by_and}
 use Rattle.std.proofs.lemmas.List.Elements.{All-contains, Contains-from_at, Contains-get_or, at_from_Contains}
 use Rattle.std.proofs.lemmas.Nat.{one_shl}
-use Rattle.std.proofs.lemmas.Bool.{both_ways, cases_lt, cases_eq, cases_order, lt-ltb, le-ltb}
+use Rattle.std.proofs.lemmas.Bool.{false≢true, cases_lt, cases_eq, cases_order, lt-ltb, le-ltb}
 use Rattle.theory.specs.declared.wish.Wish.{Wish}
 use Rattle.theory.specs.declared.wish.Wish.TheVariants.{Clear, Apart, Fine, Word, Least}
 use Rattle.theory.specs.Wishes.{Low, Formed}
@@ -260,5 +260,5 @@ module _ (shape : Shape) (wishes : List Wish) (i j : ℕ) where
     λ may. is ∙ kept_blind.1 may.blind,
   )
 
-  pub exchange_refused : (r : Bool) → r ≡ false → Decides r Alike → Decides r (Exchangeable (homes_of shape) wishes i j)
-  exchange_refused r f alike = (λ t. absurd (both_ways r f t), λ may. alike.1 (alike_from may))
+  pub exchange_refused : (Alike → ⊥) → Decides false (Exchangeable (homes_of shape) wishes i j)
+  exchange_refused unlike = (λ t. absurd (false≢true t), λ may. absurd (unlike (alike_from may)))
