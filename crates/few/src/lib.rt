@@ -11,6 +11,7 @@ use std::marker::Model;
 pub struct Full;
 
 /// At most `CAP` values, in order, which lie in the value itself.
+// The kit's `ArrayVec` cannot be copied.
 #[derive(Clone, Copy)]
 pub struct Few<T, const CAP: usize> {
     places: [T; CAP],

@@ -1,4 +1,4 @@
-//! Answers that are written into a buffer.
+//! Answers that are written into a buffer, which is lent by a rule of the project: no question needs memory.
 
 ghost use Rattle.std.specs.Prelude.{◌≡◌, [], ◌∷◌, length};
 ghost use Rattle.opening.specs.Shapes.{granted};

@@ -1,6 +1,6 @@
 //! Opens a shape, and reads its sums.
 
-ghost use Rattle.std.specs.Prelude.{◌≡◌, ℕ, ◌^◌, nat_lt};
+ghost use Rattle.std.specs.Prelude.{◌≡◌, ◌^◌, nat_lt};
 ghost use Rattle.theory.specs.Words.{stratum};
 ghost use Rattle.theory.specs.Strata.{stratum_number};
 ghost use Rattle.opening.specs.Shapes.{Opening, layers_of, units_of, factors_of, size_of_chain, stratum_in, home_of};
@@ -119,7 +119,7 @@ impl Shape {
         }
     }
 
-    /// The layer of a factor, counted from 0; none where there is no such factor.
+    /// The layer of the factor with this index, from 0; none where there is no such factor.
     pub fn home(self, factor: usize) -> Option<Stratum>
         ensures { result ≡ home_of self factor }
     {

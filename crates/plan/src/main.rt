@@ -14,12 +14,8 @@ const MOST: u64 = MOST_BYTES as u64 + 1;
 /// Answers a sheet line by line.
 fn answer_sheet(rt: &impl Print, sheet: &[u8]) -> io::Result<()> {
     let mut output = io::writer(rt);
-    // Below the programs nothing is allocated, so an answer is written into a lent buffer.
-    let mut buffer = [0u8; 1024];
     for answer in Session::new(sheet) {
-        if let Ok(size) = answer.put(&mut buffer) {
-            output.write_all(&buffer[..size])?;
-        }
+        output.write_all(answer.text().as_slice())?;
     }
     Ok(())
 }

@@ -21,7 +21,7 @@ pub struct Planner<R> {
     ghost fits: { factors_or (factors_of standing.shape) plan ≡ factors_of standing.shape },
 }
 
-// By hand, since a struct with a ghost field derives no `Clone` here.
+// By hand: a generic struct with a ghost field derives `Copy`, but no `Clone`.
 impl<R: Copy> Clone for Planner<R> {
     ghost is_clone = { λ planner copy. copy ≡ planner };
 

@@ -9,6 +9,8 @@ use opening::Numbers;
 use planner::planner::Planner;
 use ranking::aberration::Aberration;
 use std::io;
+use theory::refusal::Refusal;
+use theory::tally::Tally;
 
 /// The numbers of an opening, and the published counts of words of length 3 to 6.
 type Design = ((u16, u16, u16, u16), (u16, u16, u16, u16));
@@ -54,15 +56,19 @@ const DESIGNS: [Design; 35] = [
     ((4, 1, 3, 7), (0, 16, 0, 12)),
 ];
 
+/// The figures of the plan that finding gives for an opening.
+fn found(numbers: Numbers) -> Result<Tally, Refusal> {
+    let mut planner = Planner::new(Aberration);
+    planner.open(numbers, Aberration)?;
+    Ok(planner.find()?.tally())
+}
+
 /// Finds a plan and prints its counts beside the published ones.
 fn show(rt: &impl Print, design: Design) -> io::Result<()> {
     let ((w, s, n1, n2), published) = design;
     let (p3, p4, p5, p6) = published;
-    let mut place = Planner::new(Aberration);
-    let opened = place.open(Numbers { w, s, n1, n2 }, Aberration).is_ok();
-    let _ = place.find();
-    match place.tally() {
-        Ok(tally) if opened => {
+    match found(Numbers { w, s, n1, n2 }) {
+        Ok(tally) => {
             let (a3, a4, a5, a6) = (tally.a3, tally.a4, tally.a5, tally.a6);
             let same = (a3, a4, a5, a6) == published;
             let verdict = if same { "the same" } else { "other" };
@@ -70,7 +76,7 @@ fn show(rt: &impl Print, design: Design) -> io::Result<()> {
                 "{w} {s} {n1} {n2}: published {p3} {p4} {p5} {p6}, found {a3} {a4} {a5} {a6}, {verdict}"
             )
         }
-        _ => println!(rt; "{w} {s} {n1} {n2}: no plan"),
+        Err(_) => println!(rt; "{w} {s} {n1} {n2}: no plan"),
     }
 }
 

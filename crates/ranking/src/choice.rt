@@ -25,7 +25,8 @@ pub enum Choice {
 
 /// A score of one of the four rankings.
 ///
-/// A ranking reads it by `From`, and a score of another kind as one of its own kind with zeros only.
+/// A ranking reads it by `From`, and a score of another kind as one of its own kind with zeros only,
+/// since the law of order has to hold of any two scores.
 #[derive(Clone, Copy)]
 pub enum ChoiceScore {
     Words(WordCounts),

@@ -6,6 +6,7 @@ ghost use Rattle.ranking.specs.Verdicts.{verdict_of, first_decisive};
 use std::cmp::Ordering;
 
 /// How the first of two scores stands to the second.
+// Beside `Ordering` by a rule of the project: 'better' is not 'less', and verdicts may grow.
 #[derive(Clone, Copy, Debug, PartialEq, Eq, Hash)]
 pub enum Verdict {
     Better,

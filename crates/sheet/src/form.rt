@@ -7,8 +7,8 @@ use crate::fault::SheetFault;
 /// The most bytes that a sheet may have.
 pub const MOST_BYTES: usize = 4096;
 
-/// Whether a sheet has at most 4,096 bytes and each of its lines ends with a line feed.
-pub fn well_formed(sheet: &[u8]) -> Result<(), SheetFault>
+/// Refuses a sheet of more than 4,096 bytes, and one with a line that does not end with a line feed.
+pub fn check_form(sheet: &[u8]) -> Result<(), SheetFault>
     ensures { result ≡ form_check sheet.now }
 {
     if sheet.len() <= MOST_BYTES && sheet.last().is_none_or(|end| *end == b'\n') {

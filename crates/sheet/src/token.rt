@@ -14,6 +14,7 @@ pub struct Part<'a> {
 }
 
 /// A part of the sheet that is to be a fixed word, a number or a letter group.
+// A rule of the project: what a part is to be goes with it, and each case has a reading of its own.
 #[derive(Clone, Copy, Debug, PartialEq, Eq)]
 pub enum Token<'a> {
     Word(Part<'a>),
@@ -58,7 +59,6 @@ impl Token<'_> {
     pub fn effect(self, alphabet: Alphabet) -> Result<u16, WordFault>
         ensures { result ≡ effect_in alphabet self.entry }
     {
-        // Like `number` in shape, but of another case and another reading, which no type tells apart.
         let read = match self {
             Token::Letters(part) => alphabet.effect(part.bytes),
             _ => None,

@@ -1,4 +1,6 @@
 //! Texts written piece by piece.
+//!
+//! Not by `Display`: no contract of it says that writing succeeds where there is room.
 
 #![tactic(auto, unfolding(crate::specs::Texts::written))]
 
@@ -12,6 +14,7 @@ use itoa::Buffer;
 pub fn put_bytes<const CAP: usize>(text: &mut Few<u8, CAP>, bytes: &[u8])
     ensures { text.new.items ≡ written CAP text.old.items bytes.now }
 {
+    // What does not fit is left out, and the length tells.
     let _ = text.append(bytes);
 }
 

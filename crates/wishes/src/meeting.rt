@@ -1,6 +1,6 @@
 //! Tests a wish on the first columns of a key.
 
-ghost use Rattle.std.specs.Prelude.{◌≡◌, length, IsTrue, MatchBool};
+ghost use Rattle.std.specs.Prelude.{length, IsTrue, MatchBool};
 ghost use Rattle.theory.specs.Wishes.{Formed, Meets};
 ghost use Rattle.opening.specs.Shapes.{layers_of};
 ghost use Rattle.figures.specs.Counted.{columns_in};

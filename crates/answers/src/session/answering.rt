@@ -9,7 +9,7 @@ ghost use Rattle.answers.specs.Sessions.{first_stage, Told, Gives, most_left, An
 use super::Session;
 use crate::stage::Stage;
 use sheet::fault::SheetFault;
-use sheet::form::well_formed;
+use sheet::form::check_form;
 use sheet::reader::Reader;
 use spelling::answer::Answer;
 use theory::refusal::Refusal;
@@ -20,7 +20,7 @@ impl<'a> Session<'a> {
         ensures lines { lines_left result.reader ≡ numbered 1 (lines sheet.now) }
         ensures stage { result.stage ≡ first_stage sheet.now }
     {
-        let stage = match well_formed(sheet) {
+        let stage = match check_form(sheet) {
             Ok(()) => Stage::Opening,
             Err(fault) => Stage::Unread(fault),
         };

@@ -1,6 +1,5 @@
 //! Wishes added and struck, and the plan found.
 
-ghost use Rattle.std.specs.Prelude.{◌≡◌};
 ghost use Rattle.planner.specs.Entries.{add, strike, find};
 ghost use Rattle.planner.specs.Histories.{Goes};
 

@@ -14,12 +14,13 @@ use text::{put_bytes, put_number};
 use theory::refusal::Refusal;
 
 /// Room for the text of any answer.
-const ROOM: usize = 1024;
+pub const ROOM: usize = 1024;
 
 /// The text of an answer.
-type Text = Few<u8, ROOM>;
+pub type Text = Few<u8, ROOM>;
 
 /// Adds a factor's letter and its column.
+// Of the numbers of factors `n1` alone tells letters apart, so it comes without the other.
 fn put_column(text: &mut Text, n1: u8, factor: u8, column: u8)
     requires { length text.old.items + 6 ≤ ROOM }
     ensures { text.new.items ≡ text.old.items ++ column_text n1 factor column }
@@ -114,7 +115,7 @@ fn at_fault(fault: SheetFault) -> Text
 
 impl Answer {
     /// The text of the answer.
-    fn text(self) -> Text
+    pub fn text(self) -> Text
         ensures { result.items ≡ answer_text self }
     {
         match self {
