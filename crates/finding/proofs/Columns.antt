@@ -1,22 +1,24 @@
 -- What the tests of one column say.
-use Rattle.std.proofs.Common.{◌≡◌, ℕ, ◌+◌, ◌/◌, ◌%◌, ◌^◌, ◌<◌, ◌≤◌, Bool, true, false, cond, eqb, ltb, ◌≢◌, List, length, Some, None, Option, sym, refl, ap, ◌∙◌, subst, arith, ltb-true, le-ltb, lt-ltb, eq-eqb, eqb-true, le-leb, leb-true}
-use borrow.Author.Tests.{eqb-false}
-use Rattle.theory.proofs.Plots.{s_high}
-use Rattle.finding.specs.declared.opened.Opened.{Opened}
+use Rattle.std.proofs.Common.{◌≡◌, ℕ, ◌+◌, ◌/◌, ◌%◌, ◌^◌, ◌<◌, ◌≤◌, Bool, true, false, not, ◌&&◌, cond, eqb, ltb, ◌≢◌, ◌⊎◌, List, length, get_or, Some, None, Option, sym, refl, ap, ap₂, ◌∙◌, subst, inl, inr, arith, pow_pos, ltb-true, le-ltb, lt-ltb, eq-eqb, eqb-true, le-leb, leb-true}
+use Rattle.std.specs.Option.{option_eq}
+use Rattle.std.proofs.lemmas.Bool.{cases_lt, cases_eq, lt-leb, ne_eqb, eqb-false, and_parts, not-true}
+use Rattle.std.proofs.lemmas.Option.{none-some, same_Some}
+use Rattle.theory.specs.contracts.stratum.StratumPartialEq.TheImpl.{eq-value as equal}
+use Rattle.theory.specs.Strata.{stratum_named}
+use Rattle.theory.specs.Words.{stratum}
+use Rattle.theory.proofs.Homes.{home_whole, home_sub}
+use Rattle.theory.proofs.Plots.{s_high, stratum_1, stratum_2}
+use Rattle.opening.specs.declared.Shape.{Shape}
+use Rattle.opening.specs.Shapes.{layers_of, homes_of, factors_of, stratum_in, home_of}
+use Rattle.opening.proofs.Homes.{home_named}
+use Rattle.finding.specs.declared.begun.Opened.{Opened}
 use Rattle.finding.specs.Walks.{Within, held, is_in_layer, after, next}
-use Rattle.finding.proofs.Steps.{eqb_no}
 
-no_some : {p : Opened} → None ≡ Some p → ⊥
-no_some e = let z : ◌≡◌ {A = ℕ} 0 1 = cc in omega arith
-
-some_same : {p q : Opened} → Some p ≡ Some q → q ≡ p
-some_same e = cc
-
--- the three tests of a column
-pub tests : (x y : Bool) (o : Option Opened) (p : Opened) → cond x (cond y None o) None ≡ Some p → (x ≡ true) × (y ≡ false) × (o ≡ Some p)
-tests true true o p e = absurd (no_some e)
+-- the two tests of a column
+pub tests : (x y : Bool) (o : Option Opened) (p : Opened) → cond (x && not y) o None ≡ Some p → (x ≡ true) × (y ≡ false) × (o ≡ Some p)
+tests true true o p e = absurd (none-some p e)
 tests true false o p e = (refl, refl, e)
-tests false y o p e = absurd (no_some e)
+tests false y o p e = absurd (none-some p e)
 
 -- what a standard column opens
 pub data Move (w s : ℕ) (o : Opened) (c : ℕ) (p : Opened) : Type 0 where
@@ -25,19 +27,26 @@ pub data Move (w s : ℕ) (o : Opened) (c : ℕ) (p : Opened) : Type 0 where
   by_none : c % 2 ^ w < 2 ^ o.whole → c / 2 ^ w < 2 ^ o.sub → p ≡ o → Move w s o c p
 
 module _ (w s : ℕ) (o : Opened) (c : ℕ) (p : Opened) where
+  abbrev opens_whole : Bool
+  opens_whole = ltb o.whole w && eqb (c % 2 ^ w) (2 ^ o.whole)
+
+  abbrev opens_sub : Bool
+  opens_sub = ltb o.sub s && eqb c (2 ^ (w + o.sub))
+
   pub after_move : after w s o c ≡ Some p → Move w s o c p
-  after_move e = go (ltb (c / 2 ^ w) (2 ^ o.sub)) refl (ltb (c % 2 ^ w) (2 ^ o.whole)) refl (ltb o.whole w) refl (eqb (c % 2 ^ w) (2 ^ o.whole)) refl (ltb o.sub s) refl (eqb c (2 ^ (w + o.sub))) refl e
+  after_move e = go (ltb (c / 2 ^ w) (2 ^ o.sub)) refl (ltb (c % 2 ^ w) (2 ^ o.whole)) refl opens_whole refl opens_sub refl e
     where
-      go : (t : Bool) → ltb (c / 2 ^ w) (2 ^ o.sub) ≡ t → (u : Bool) → ltb (c % 2 ^ w) (2 ^ o.whole) ≡ u → (v : Bool) → ltb o.whole w ≡ v → (x : Bool) → eqb (c % 2 ^ w) (2 ^ o.whole) ≡ x
-          → (y : Bool) → ltb o.sub s ≡ y → (z : Bool) → eqb c (2 ^ (w + o.sub)) ≡ z
-          → cond t (cond u (Some o) (cond v (cond x (Some (record { whole = o.whole + 1; sub = o.sub })) None) None)) (cond y (cond z (Some (record { whole = o.whole; sub = o.sub + 1 })) None) None) ≡ Some p → Move w s o c p
-      go true t true u v v' x x' y y' z z' e = by_none (ltb-true (c % 2 ^ w) (2 ^ o.whole) u) (ltb-true (c / 2 ^ w) (2 ^ o.sub) t) (some_same e)
-      go true t false u true v true x y y' z z' e = by_w (ltb-true o.whole w v) (eqb-true (c % 2 ^ w) (2 ^ o.whole) x) (ltb-true (c / 2 ^ w) (2 ^ o.sub) t) (some_same e)
-      go true t false u true v false x y y' z z' e = absurd (no_some e)
-      go true t false u false v x x' y y' z z' e = absurd (no_some e)
-      go false t u u' v v' x x' true y true z e = by_s (ltb-true o.sub s y) (eqb-true c (2 ^ (w + o.sub)) z) (some_same e)
-      go false t u u' v v' x x' true y false z e = absurd (no_some e)
-      go false t u u' v v' x x' false y z z' e = absurd (no_some e)
+      go : (t : Bool) → ltb (c / 2 ^ w) (2 ^ o.sub) ≡ t → (u : Bool) → ltb (c % 2 ^ w) (2 ^ o.whole) ≡ u → (x : Bool) → opens_whole ≡ x → (y : Bool) → opens_sub ≡ y
+          → cond t (cond u (Some o) (cond x (Some (record { whole = o.whole + 1; sub = o.sub })) None)) (cond y (Some (record { whole = o.whole; sub = o.sub + 1 })) None) ≡ Some p → Move w s o c p
+      go true t true u x x' y y' e = by_none (ltb-true (c % 2 ^ w) (2 ^ o.whole) u) (ltb-true (c / 2 ^ w) (2 ^ o.sub) t) (sym (same_Some o p e))
+      go true t false u true x y y' e =
+          let both = and_parts (ltb o.whole w) (eqb (c % 2 ^ w) (2 ^ o.whole)) x in
+          by_w (ltb-true o.whole w both.0) (eqb-true (c % 2 ^ w) (2 ^ o.whole) both.1) (ltb-true (c / 2 ^ w) (2 ^ o.sub) t) (sym (same_Some (record { whole = o.whole + 1; sub = o.sub }) p e))
+      go true t false u false x y y' e = absurd (none-some p e)
+      go false t u u' x x' true y e =
+          let both = and_parts (ltb o.sub s) (eqb c (2 ^ (w + o.sub))) y in
+          by_s (ltb-true o.sub s both.0) (eqb-true c (2 ^ (w + o.sub)) both.1) (sym (same_Some (record { whole = o.whole; sub = o.sub + 1 }) p e))
+      go false t u u' x x' false y e = absurd (none-some p e)
 
   pub move_after : Move w s o c p → after w s o c ≡ Some p
   move_after (by_s l e q) =
@@ -50,20 +59,47 @@ module _ (w s : ℕ) (o : Opened) (c : ℕ) (p : Opened) where
 -- ---- the layer of a factor
 module _ (w n1 i c : ℕ) where
   pub layer_whole : i < n1 → is_in_layer w n1 i c ≡ true → (c ≢ 0) × (c < 2 ^ w)
-  layer_whole l h = go (eqb c 0) refl (rw (lt-ltb i n1 l) at h)
-    where
-      go : (t : Bool) → eqb c 0 ≡ t → cond t false (ltb c (2 ^ w)) ≡ true → (c ≢ 0) × (c < 2 ^ w)
-      go true e h = absurd (let z : ◌≡◌ {A = ℕ} 0 1 = cc in omega arith)
-      go false e h = (eqb-false c 0 e, ltb-true c (2 ^ w) h)
+  layer_whole l h =
+      let both = and_parts (not (eqb c 0)) (ltb c (2 ^ w)) (rw (lt-ltb i n1 l) at h) in
+      (eqb-false c 0 (not-true (eqb c 0) both.0), ltb-true c (2 ^ w) both.1)
 
   pub layer_sub : n1 ≤ i → is_in_layer w n1 i c ≡ true → 2 ^ w ≤ c
   layer_sub l h = leb-true (2 ^ w) c (rw (le-ltb i n1 l) at h)
 
   pub whole_layer : i < n1 → c ≢ 0 → c < 2 ^ w → is_in_layer w n1 i c ≡ true
-  whole_layer l n h = rw (lt-ltb i n1 l, eqb_no c 0 n) (lt-ltb c (2 ^ w) h)
+  whole_layer l n h = rw (lt-ltb i n1 l, ne_eqb c 0 n) (lt-ltb c (2 ^ w) h)
 
   pub sub_layer : n1 ≤ i → 2 ^ w ≤ c → is_in_layer w n1 i c ≡ true
   sub_layer l h = rw (le-ltb i n1 l) (le-leb (2 ^ w) c h)
+
+-- the same, as the code asks: the home of the factor is the stratum of the word
+module _ (shape : Shape) (i c : ℕ) (within : i < factors_of shape) where
+  abbrev ws : List ℕ
+  ws = layers_of shape
+
+  abbrev asked : Bool
+  asked = option_eq equal.it (home_of shape i) (Some (stratum_in shape c))
+
+  named : (l k : ℕ) → get_or (homes_of shape) i 0 ≡ l → stratum ws c ≡ k → asked ≡ equal.it (stratum_named l) (stratum_named k)
+  named l k home word = ap₂ (λ a b. option_eq equal.it a (Some b)) (home_named shape i within ∙ ap (λ (x : ℕ). Some (stratum_named x)) home) (ap stratum_named word)
+
+  pub layer_asked : asked ≡ is_in_layer shape.w shape.n1 i c
+  layer_asked = go (cases_lt i shape.n1) (cases_eq c 0) (cases_lt c (2 ^ shape.w))
+    where
+      whole : i < shape.n1 → get_or (homes_of shape) i 0 ≡ 1
+      whole h = home_whole shape.n1 shape.n2 i h
+
+      sub : shape.n1 ≤ i → get_or (homes_of shape) i 0 ≡ 2
+      sub h = home_sub shape.n1 shape.n2 i h within
+
+      go : (i < shape.n1) ⊎ (shape.n1 ≤ i) → (c ≡ 0) ⊎ (c ≢ 0) → (c < 2 ^ shape.w) ⊎ (2 ^ shape.w ≤ c) → asked ≡ is_in_layer shape.w shape.n1 i c
+      go (inl h) (inl z) m = named 1 0 (whole h) (ap (stratum ws) z) ∙ sym (rw (lt-ltb i shape.n1 h, eq-eqb c 0 z) refl)
+      go (inl h) (inr n) (inl l) = named 1 1 (whole h) (stratum_1 shape.w shape.s c n l) ∙ sym (whole_layer shape.w shape.n1 i c h n l)
+      go (inl h) (inr n) (inr g) =
+          named 1 2 (whole h) (stratum_2 shape.w shape.s c g) ∙ sym (rw (lt-ltb i shape.n1 h, ne_eqb c 0 n, le-ltb c (2 ^ shape.w) g) refl)
+      go (inr h) (inl z) m = named 2 0 (sub h) (ap (stratum ws) z) ∙ sym (rw (le-ltb i shape.n1 h, lt-leb (2 ^ shape.w) c (omega (arith, pow_pos shape.w))) refl)
+      go (inr h) (inr n) (inl l) = named 2 1 (sub h) (stratum_1 shape.w shape.s c n l) ∙ sym (rw (le-ltb i shape.n1 h, lt-leb (2 ^ shape.w) c l) refl)
+      go (inr h) (inr n) (inr g) = named 2 2 (sub h) (stratum_2 shape.w shape.s c g) ∙ sym (sub_layer shape.w shape.n1 i c h g)
 
 -- no more are open than there are
 pub next_within : (w s n1 : ℕ) (used : List ℕ) (o : Opened) (c : ℕ) (p : Opened) → Within w s o → next w s n1 used o c ≡ Some p → Within w s p

@@ -1,11 +1,11 @@
 -- Columns that may stand one after another are words of their layers, each new; and the way back.
-use Rattle.std.proofs.Common.{◌≡◌, ℕ, zero, suc, ◌+◌, ◌^◌, ◌<◌, Bool, true, false, cond, eqb, ◌≢◌, List, [], ◌∷◌, ◌++◌, length, get_or, sym, refl, ◌∙◌, subst, add-zero, add-one, arith}
-use borrow.Author.Tests.{eqb-false}
+use Rattle.std.proofs.Common.{◌≡◌, ℕ, zero, suc, ◌+◌, ◌^◌, ◌<◌, true, false, eqb, ◌≢◌, List, [], ◌∷◌, ◌++◌, length, get_or, sym, refl, ◌∙◌, subst, add-zero, add-one, arith}
+use Rattle.std.proofs.lemmas.Bool.{or_parts, ne_eqb, eqb-false}
 use Rattle.std.proofs.lemmas.List.{length_push}
 use Rattle.theory.specs.Plots.{Read, end, opens_s, opens_w, opens_none}
-use Rattle.finding.specs.declared.opened.Opened.{Opened}
+use Rattle.finding.specs.declared.begun.Opened.{Opened}
 use Rattle.finding.specs.Walks.{held, is_in_layer, after}
-use Rattle.finding.proofs.Steps.{held_more, eqb_no}
+use Rattle.finding.proofs.Steps.{held_more}
 use Rattle.finding.proofs.Members.{Goes}
 use Rattle.finding.proofs.Columns.{tests, Move, by_s, by_w, by_none, after_move, move_after}
 
@@ -16,11 +16,6 @@ pub record Facts (w s n1 : ℕ) (used cs : List ℕ) : Type 0 where
   pub fresh : (i : ℕ) → i < length cs → held (get_or cs i 0) used ≡ false
   pub apart : (i j : ℕ) → i < j → j < length cs → get_or cs i 0 ≢ get_or cs j 0
 
--- x was not held, nor is it d
-not_held : (x y : Bool) → cond x true y ≡ false → (x ≡ false) × (y ≡ false)
-not_held true y e = absurd (let z : ◌≡◌ {A = ℕ} 0 1 = cc in omega arith)
-not_held false y e = (refl, e)
-
 module _ (w s n1 : ℕ) where
   push_at : (used : List ℕ) (c i : ℕ) → length (used ++ c ∷ []) + i ≡ length used + suc i
   push_at used c i = omega (arith, length_push used c)
@@ -29,7 +24,7 @@ module _ (w s n1 : ℕ) where
   tail_facts used c cs f = record {
     words = λ i l. f.words (suc i) (omega arith);
     layer = λ i l. subst (λ (k : ℕ). is_in_layer w n1 k (get_or cs i 0) ≡ true) (sym (push_at used c i)) (f.layer (suc i) (omega arith));
-    fresh = λ i l. rw (held_more (get_or cs i 0) c used, f.fresh (suc i) (omega arith)) (eqb_no (get_or cs i 0) c (λ e. f.apart 0 (suc i) (omega arith) (omega arith) (sym e)));
+    fresh = λ i l. rw (held_more (get_or cs i 0) c used, f.fresh (suc i) (omega arith)) (ne_eqb c (get_or cs i 0) (f.apart 0 (suc i) (omega arith) (omega arith)));
     apart = λ i j l m. f.apart (suc i) (suc j) (omega arith) (omega arith);
   }
 
@@ -44,8 +39,8 @@ module _ (w s n1 : ℕ) where
       layer zero l = rw add-zero hs
       layer (suc i) l = subst (λ (k : ℕ). is_in_layer w n1 k (get_or cs i 0) ≡ true) (push_at used c i) (f.layer i (omega arith))
 
-      new : (i : ℕ) → i < length cs → (held (get_or cs i 0) used ≡ false) × (eqb (get_or cs i 0) c ≡ false)
-      new i l = not_held (held (get_or cs i 0) used) (eqb (get_or cs i 0) c) (sym (held_more (get_or cs i 0) c used) ∙ f.fresh i l)
+      new : (i : ℕ) → i < length cs → (held (get_or cs i 0) used ≡ false) × (eqb c (get_or cs i 0) ≡ false)
+      new i l = or_parts (held (get_or cs i 0) used) (eqb c (get_or cs i 0)) (sym (held_more (get_or cs i 0) c used) ∙ f.fresh i l)
 
       fresh : (i : ℕ) → i < suc (length cs) → held (get_or (c ∷ cs) i 0) used ≡ false
       fresh zero l = hh
@@ -53,7 +48,7 @@ module _ (w s n1 : ℕ) where
 
       apart : (i j : ℕ) → i < j → j < suc (length cs) → get_or (c ∷ cs) i 0 ≢ get_or (c ∷ cs) j 0
       apart i zero l m e = omega arith
-      apart zero (suc j) l m e = eqb-false (get_or cs j 0) c (new j (omega arith)).1 (sym e)
+      apart zero (suc j) l m e = eqb-false c (get_or cs j 0) (new j (omega arith)).1 e
       apart (suc i) (suc j) l m e = f.apart i j (omega arith) (omega arith) e
 
   -- the move that a column makes

@@ -1,7 +1,7 @@
 -- Members of lists, and lists in dictionary order.
 use Rattle.std.proofs.Common.{◌≡◌, ℕ, zero, suc, ◌<◌, ◌⊎◌, List, [], ◌∷◌, ◌++◌, Some, None, Option, refl, subst, inl, inr, arith}
 use native.Mathlib.Decide.{ℕ_discrete}
-use Rattle.finding.specs.declared.opened.Opened.{Opened}
+use Rattle.finding.specs.declared.begun.Opened.{Opened}
 use Rattle.finding.specs.Walks.{upto, go_on}
 use Rattle.finding.specs.Listing.{In, Before, Rising}
 

@@ -1,6 +1,6 @@
 -- The keys that the walk gives are those whose columns may stand one after another, and they rise.
 use Rattle.std.proofs.Common.{◌≡◌, ℕ, zero, suc, ◌+◌, ◌^◌, ◌<◌, Bool, true, false, cond, ◌&&◌, eqb, List, [], ◌∷◌, ◌++◌, length, Some, None, Option, sym, refl, ap, ◌∙◌, subst, inl, inr, append_assoc, append-nil, eq-eqb, eqb-true}
-use Rattle.finding.specs.declared.opened.Opened.{Opened}
+use Rattle.finding.specs.declared.begun.Opened.{Opened}
 use Rattle.finding.specs.Walks.{is_all, next, go_on, keys_from, branch}
 use Rattle.finding.specs.Listing.{In, Before, Rising}
 use Rattle.finding.proofs.Lists.{in_upto, upto_in, in_go_on, before_front, rising_upto}

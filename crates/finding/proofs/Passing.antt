@@ -1,5 +1,5 @@
 -- Keys that fail no standing wish, and what is kept of them.
-use Rattle.std.proofs.Common.{◌≡◌, ℕ, Bool, true, false, cond, T, ◌↔◌, List, [], ◌∷◌, ◌++◌, length, take, All, Some, None, MatchBool, MatchOption, Option, sym, refl, ap, ◌∙◌, subst, subst₂, inl, inr, append-nil, arith, length-append}
+use Rattle.std.proofs.Common.{◌≡◌, ℕ, Bool, true, false, cond, ◌↔◌, List, [], ◌∷◌, ◌++◌, length, take, All, Some, None, MatchBool, MatchOption, Option, sym, ap, ◌∙◌, subst, subst₂, inl, inr, append-nil, arith, length-append}
 use lib.Seq.{take-append_seam}
 use Rattle.std.proofs.lemmas.List.Elements.{All-weaker}
 use Rattle.std.proofs.lemmas.Bool.Decides.{when_true, when_false}
@@ -36,10 +36,6 @@ begins_fails ws cs wishes (k, wish, within, is, fails) key (more, e) pass =
     fails_for_all ws cs wish fails key (ap (take (length cs)) e ∙ take-append_seam cs more)
     (subst (Passes ws key) is (pass k wish within) (formed_more (omega (arith, ap length e, length-append cs more)) wish fails.0))
 
-holds : (b : Bool) → T b → b ≡ true
-holds true t = refl
-holds false t = absurd t
-
 -- the standing wishes are tested on columns; the judge has had the same since it began
 module _ (counts : Counts) (first now : Standing) (same : now ≡ first) (r : Bool)
     (test : MatchBool r (SomeFails (layers_of counts.shape) (columns_in counts) (wishes_in now)) (All (Passes (layers_of counts.shape) (columns_in counts)) (wishes_in now))) where
@@ -50,10 +46,10 @@ module _ (counts : Counts) (first now : Standing) (same : now ≡ first) (r : Bo
       (subst (λ (s : Standing). SomeFails (layers_of counts.shape) (columns_in counts) (wishes_in s)) same (when_true _ _ t test)) key begin
 
   pub keep_left : {S : Type 0} (score : Tally → S) (ranks : S → S → Verdict) → Order ranks → (keys more : List (List ℕ)) (best : Option (Kept S)) → KeepsPassing counts.shape (wishes_in first) score ranks keys best
-      → T r → ((key : List ℕ) → In key more → Begins (columns_in counts) key) → KeepsPassing counts.shape (wishes_in first) score ranks (keys ++ more) best
+      → r ≡ true → ((key : List ℕ) → In key more → Begins (columns_in counts) key) → KeepsPassing counts.shape (wishes_in first) score ranks (keys ++ more) best
   keep_left score ranks order keys more best was t begin =
       keeps_on (PassesAll (layers_of counts.shape) (wishes_in first)) (λ (key : List ℕ). score (tally (layers_of counts.shape) key)) ranks order keys best was more
-      (λ key i. none_passes (holds r t) key (begin key i))
+      (λ key i. none_passes t key (begin key i))
 
   -- they are those of a key: the columns before, and the last one, which had room
   module _ (begun : Counts) (column : ℕ) (fits : room_for begun column ≡ true) (Shape-is : counts.shape ≡ begun.shape)

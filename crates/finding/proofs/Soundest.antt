@@ -1,5 +1,5 @@
 -- What is best of the standard keys is best of all sound keys; and what stays best with one wish more.
-use Rattle.std.proofs.Common.{◌≡◌, ℕ, true, ◌↔◌, List, [], ◌∷◌, ◌++◌, length, get_or, All, IfSome, Some, None, Option, sym, subst, ◌<◌, arith, length-append}
+use Rattle.std.proofs.Common.{◌≡◌, ℕ, true, ◌↔◌, List, [], ◌∷◌, ◌++◌, length, get_or, All, Some, None, Option, sym, subst, ◌<◌, arith, length-append}
 use Rattle.std.proofs.lemmas.List.Elements.{All-push}
 use Rattle.std.proofs.lemmas.List.{get_or_append_left}
 use Rattle.theory.specs.declared.tally.Tally.{Tally}
@@ -83,10 +83,6 @@ module _ (shape : Shape) (wishes : List Wish) (wish : Wish) where
     }
 
 -- ---- a key is made of the columns found
-pub made_shape : (shape : Shape) (cs : List ℕ) (r : Option Key) → Making shape cs r → IfSome r (λ key. key.shape ≡ shape)
-made_shape shape cs None m = tt
-made_shape shape cs (Some key) m = m.1
-
 pub made_best : (shape : Shape) (wishes : List Wish) (ranks : List ℕ → List ℕ → Verdict) (cs : List ℕ) → FirstBest (Wished shape wishes) ranks cs
     → (r : Option Key) → Making shape cs r → Finding columns_of (Wished shape wishes) ranks r
 made_best shape wishes ranks cs best None m = absurd (m best.one.0.sound)

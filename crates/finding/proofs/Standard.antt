@@ -10,7 +10,7 @@ use Rattle.theory.proofs.Count.{none_0}
 use Rattle.theory.proofs.Pigeon.{exp_le}
 use Rattle.theory.proofs.Sounds.{an_effect}
 use Rattle.theory.proofs.Plots.{top_open, top_from, next_s, standard_to, standard_from, sound_to}
-use Rattle.finding.specs.declared.opened.Opened.{Opened}
+use Rattle.finding.specs.declared.begun.Opened.{Opened}
 use Rattle.finding.specs.Walks.{is_in_layer, keys_from, none_open}
 use Rattle.finding.specs.Listing.{In, Listed, ListingFact}
 use Rattle.finding.proofs.Lists.{no_members}

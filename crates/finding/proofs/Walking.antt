@@ -1,6 +1,5 @@
 -- The keys of a walk from the counted columns, branch by branch.
-use Rattle.std.proofs.Common.{◌≡◌, ℕ, ◌+◌, ◌-◌, ◌*◌, ◌%◌, ◌^◌, ◌<◌, ◌≤◌, Bool, true, cond, ltb, List, [], ◌∷◌, ◌++◌, length, Some, None, sym, ap, ◌∙◌, subst, ap₂, subst₂, append_assoc, append-nil, add-one, arith, ltb-true}
-use Rattle.std.proofs.lemmas.Nat.{one_shl}
+use Rattle.std.proofs.Common.{◌≡◌, ℕ, ◌+◌, ◌-◌, ◌^◌, ◌<◌, ◌≤◌, Bool, true, cond, ltb, List, [], ◌∷◌, ◌++◌, length, Some, None, sym, ap, ◌∙◌, subst, ap₂, subst₂, append_assoc, append-nil, add-one, arith, ltb-true}
 use Rattle.std.proofs.lemmas.List.{length_push}
 use Rattle.opening.specs.declared.Shape.{Shape}
 use Rattle.opening.specs.Shapes.{units_of, factors_of}
@@ -8,7 +7,7 @@ use Rattle.figures.specs.declared.counts.Counts.{Counts}
 use Rattle.figures.specs.Counted.{columns_in, room_for}
 use Rattle.figures.proofs.Rooms.{room_from}
 use Rattle.finding.specs.declared.begun.Begun.{Begun}
-use Rattle.finding.specs.declared.opened.Opened.{Opened}
+use Rattle.finding.specs.declared.begun.Opened.{Opened}
 use Rattle.finding.specs.Walks.{is_all, closed_in, go_on, upto, keys_from, next_in, keys_after, branch_after}
 use Rattle.finding.specs.Listing.{In, Begins}
 use Rattle.finding.proofs.Steps.{leaf, node}
@@ -22,10 +21,6 @@ step P f c keys e d h = subst₂ P (ap (λ (l : List (List ℕ)). (keys ++ upto 
   where
     more : keys ++ upto f (c + 1) ≡ (keys ++ upto f c) ++ f c
     more = rw (add-one, append_assoc)
-
--- ---- the words of a shape
-pub mark_is : (c : ℕ) → c < 32 → (1 * 2 ^ c) % 4294967296 ≡ 2 ^ c
-mark_is c h = one_shl c 32 h
 
 module _ (begun : Begun) where
   abbrev counts : Counts

@@ -1,12 +1,13 @@
 -- The keys of a walk: column by column, each word in its turn. Assumes nothing.
 --
 -- There are w whole-plot unit factors W and s subplot unit factors S, n1 whole-plot factors and then n2 subplot factors.
-use Rattle.std.specs.Prelude.{◌≡◌, ℕ, zero, suc, ◌+◌, ◌-◌, ◌/◌, ◌%◌, ◌^◌, ◌≤◌, Bool, true, false, cond, ◌&&◌, List, [], ◌∷◌, ◌++◌, length, Some, None, Option, ◌==◌, nat_le, nat_lt, refl}
+use Rattle.std.specs.Prelude.{◌≡◌, ℕ, zero, suc, ◌+◌, ◌-◌, ◌/◌, ◌%◌, ◌^◌, ◌≤◌, Bool, not, if◌then◌else◌, ◌&&◌, List, [], ◌∷◌, ◌++◌, length, Some, None, Option, ◌==◌, nat_le, nat_lt, refl}
+use Rattle.std.specs.List.{list_any}
 use Rattle.opening.specs.declared.Shape.{Shape}
 use Rattle.opening.specs.Shapes.{factors_of}
 use Rattle.figures.specs.declared.counts.Counts.{Counts}
 use Rattle.figures.specs.Counted.{columns_in}
-use Rattle.finding.specs.declared.opened.Opened.{Opened}
+use Rattle.finding.specs.declared.begun.Opened.{Opened}
 
 -- no unit factor is open
 abbrev pub none_open : Opened
@@ -28,27 +29,22 @@ closed_in shape o = shape.w - o.whole + (shape.s - o.sub)
 -- where c is none of these.
 abbrev pub after : (w s : ℕ) → Opened → ℕ → Option Opened
 after w s o c =
-    cond (nat_lt (c / 2 ^ w) (2 ^ o.sub))
-    (cond (nat_lt (c % 2 ^ w) (2 ^ o.whole)) (Some o)
-    (cond (nat_lt o.whole w) (cond (c % 2 ^ w == 2 ^ o.whole) (Some (record { whole = o.whole + 1; sub = o.sub })) None) None))
-    (cond (nat_lt o.sub s) (cond (c == 2 ^ (w + o.sub)) (Some (record { whole = o.whole; sub = o.sub + 1 })) None) None)
+    if nat_lt (c / 2 ^ w) (2 ^ o.sub)
+    then (if nat_lt (c % 2 ^ w) (2 ^ o.whole) then Some o
+    else (if nat_lt o.whole w && c % 2 ^ w == 2 ^ o.whole then Some (record { whole = o.whole + 1; sub = o.sub }) else None))
+    else (if nat_lt o.sub s && c == 2 ^ (w + o.sub) then Some (record { whole = o.whole; sub = o.sub + 1 }) else None)
 
 -- c is one of the columns
 abbrev pub held : ℕ → List ℕ → Bool
-held c [] = false
-held c (d ∷ ds) = cond (c == d) true (held c ds)
-
--- the bit at place c says whether c is one of the columns
-abbrev pub Marks : ℕ → List ℕ → Type 0
-Marks used cs = (c : ℕ) → used / 2 ^ c % 2 ≡ cond (held c cs) 1 0
+held c cs = list_any (λ d. d == c) cs
 
 -- the word c lies in the layer of factor i, counted from 0
 abbrev pub is_in_layer : (w n1 i c : ℕ) → Bool
-is_in_layer w n1 i c = cond (nat_lt i n1) (cond (c == 0) false (nat_lt c (2 ^ w))) (nat_le (2 ^ w) c)
+is_in_layer w n1 i c = if nat_lt i n1 then not (c == 0) && nat_lt c (2 ^ w) else nat_le (2 ^ w) c
 
 -- what is open after the column c behind the columns used, where it may stand there
 abbrev pub next : (w s n1 : ℕ) → List ℕ → Opened → ℕ → Option Opened
-next w s n1 used o c = cond (is_in_layer w n1 (length used) c) (cond (held c used) None (after w s o c)) None
+next w s n1 used o c = if is_in_layer w n1 (length used) c && not (held c used) then after w s o c else None
 
 -- the keys that follow from what is then open, if anything is
 abbrev pub go_on : Option Opened → (Opened → List (List ℕ)) → List (List ℕ)
@@ -62,7 +58,7 @@ upto f (suc c) = upto f c ++ f c
 
 -- the keys that go on from the columns used by r more, and have every unit factor open at their end
 unfoldable pub keys_from : (w s n1 r : ℕ) → List ℕ → Opened → List (List ℕ)
-keys_from w s n1 zero used o = cond (is_all w s o) (used ∷ []) []
+keys_from w s n1 zero used o = if is_all w s o then used ∷ [] else []
 keys_from w s n1 (suc r) used o = upto (λ c. go_on (next w s n1 used o c) (keys_from w s n1 r (used ++ c ∷ []))) (2 ^ (w + s))
 
 -- those of them whose next column is c

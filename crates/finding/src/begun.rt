@@ -3,38 +3,34 @@
 ghost use Rattle.std.specs.Prelude.{◌≡◌, suc, ◌-◌, ◌^◌, ◌<◌, [], ◌∷◌, ◌++◌, length, Some, nat_lt};
 ghost use Rattle.opening.specs.Shapes.{units_of, factors_of};
 ghost use Rattle.figures.specs.Counted.{columns_in};
-ghost use Rattle.finding.specs.Walks.{none_open, Within, Marks, is_in_layer, next_in, closed_in};
+ghost use Rattle.finding.specs.Walks.{none_open, is_all, Within, is_in_layer, after, next_in, closed_in};
 
-use crate::opened::Opened;
 use figures::counts::Counts;
 use opening::Shape;
 
-/// The first columns of a key; at least one factor has none yet.
-///
-/// The bits of `used` mark the columns, and `opened` is what they open.
+/// How many unit factors of each layer are open, always the first ones.
+#[derive(Clone, Copy, Debug, PartialEq, Eq, Hash)]
+pub struct Opened {
+    pub whole: u8,
+    pub sub: u8,
+}
+
+impl Opened {
+    /// Whether every unit factor is open.
+    pub fn is_all(self, shape: Shape) -> bool
+        ensures { result ≡ is_all shape.w shape.s self }
+    {
+        self.whole == shape.w && self.sub == shape.s
+    }
+}
+
+/// The first columns of a key, and what they open; at least one factor has no column yet.
 #[derive(Clone, Copy)]
 pub struct Begun {
     pub counts: Counts,
-    pub used: u32,
     pub opened: Opened,
     ghost few: { length (columns_in counts) < factors_of counts.shape },
-    ghost marks: { Marks used (columns_in counts) },
     ghost within: { Within counts.shape.w counts.shape.s opened },
-}
-
-/// Whether a word lies in the layer of a factor, counted from 0.
-fn in_layer(shape: Shape, factor: usize, word: u8) -> bool
-    ensures { result ≡ is_in_layer shape.w shape.n1 factor word }
-{
-    if factor < usize::from(shape.n1) {
-        if word == 0 {
-            false
-        } else {
-            word < 1 << shape.w
-        }
-    } else {
-        1 << shape.w <= word
-    }
 }
 
 impl Begun {
@@ -46,7 +42,6 @@ impl Begun {
     {
         Begun {
             counts: Counts::new(shape),
-            used: 0,
             opened: Opened { whole: 0, sub: 0 },
         }
     }
@@ -58,23 +53,61 @@ impl Begun {
         usize::from(self.counts.shape().factors()) - self.counts.columns().len()
     }
 
+    /// How many unit factors are closed.
+    fn closed(&self) -> u8
+        ensures { result ≡ closed_in self.now.counts.shape self.now.opened }
+    {
+        let shape = self.counts.shape();
+        shape.w - self.opened.whole + (shape.s - self.opened.sub)
+    }
+
     /// Whether more unit factors are closed than factors are left.
     pub fn is_late(&self) -> bool
         ensures { result ≡ nat_lt (factors_of self.now.counts.shape - length (columns_in self.now.counts)) (closed_in self.now.counts.shape self.now.opened) }
     {
-        self.left() < usize::from(self.opened.closed(self.counts.shape()))
+        self.left() < usize::from(self.closed())
+    }
+
+    /// Whether a word lies in the layer of the next factor.
+    fn is_in_layer(&self, word: u8) -> bool
+        ensures { result ≡ is_in_layer self.now.counts.shape.w self.now.counts.shape.n1 (length (columns_in self.now.counts)) word }
+    {
+        let shape = self.counts.shape();
+        shape.home(self.counts.columns().len()) == Some(shape.stratum(word))
+    }
+
+    /// What is open after a column that is standard where this is open; none where it is not.
+    fn after(&self, column: u8) -> Option<Opened>
+        ensures { result ≡ after self.now.counts.shape.w self.now.counts.shape.s self.now.opened column }
+    {
+        let shape = self.counts.shape();
+        let Opened { whole, sub } = self.opened;
+        if column >> shape.w >= 1 << sub {
+            let is_next = sub < shape.s && column == 1 << (shape.w + sub);
+            return is_next.then_some(Opened {
+                whole,
+                sub: sub + 1,
+            });
+        }
+        let low = column % (1 << shape.w);
+        if low < 1 << whole {
+            return Some(self.opened);
+        }
+        let is_next = whole < shape.w && low == 1 << whole;
+        is_next.then_some(Opened {
+            whole: whole + 1,
+            sub,
+        })
     }
 
     /// What is open with one more column; none where it may not stand next.
     pub fn next(&self, column: u8) -> Option<Opened>
-        requires { column < 2 ^ units_of self.now.counts.shape }
         ensures { result ≡ next_in self.now.counts self.now.opened column }
     {
-        let shape = self.counts.shape();
-        if !in_layer(shape, self.counts.columns().len(), column) || (self.used >> column) % 2 == 1 {
+        if !self.is_in_layer(column) || self.counts.columns().contains(&column) {
             return None;
         }
-        self.opened.after(shape, column)
+        self.after(column)
     }
 
     /// The same with one more column that may stand next, and what is then open.
@@ -88,7 +121,6 @@ impl Begun {
     {
         Begun {
             counts: self.counts.place(column),
-            used: self.used | 1 << column,
             opened,
         }
     }

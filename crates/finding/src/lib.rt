@@ -5,7 +5,6 @@
 mod begun;
 pub mod best;
 mod judge;
-mod opened;
 pub mod visit;
 pub mod walk;
 

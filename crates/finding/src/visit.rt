@@ -1,6 +1,6 @@
 //! Who takes the keys of a walk, one by one.
 
-ghost use Rattle.std.specs.Prelude.{◌≡◌, ℕ, true, T, List, [], ◌∷◌, ◌++◌};
+ghost use Rattle.std.specs.Prelude.{◌≡◌, ℕ, true, IsTrue, List, [], ◌∷◌, ◌++◌};
 ghost use Rattle.opening.specs.declared.Shape.{Shape};
 ghost use Rattle.figures.specs.Counted.{columns_in, room_for};
 ghost use Rattle.finding.specs.Listing.{In, Begins};
@@ -20,7 +20,7 @@ pub trait Visit: Sized {
 
     /// Whether keys that begin with the counted columns would change nothing.
     fn leave(&self, counts: &Counts) -> bool
-        ensures { T result → (u : Self) (keys more : List (List ℕ)) → ((key : List ℕ) → In key more → Begins (columns_in counts.now) key) → saw counts.now.shape u keys self.now → saw counts.now.shape u (keys ++ more) self.now }
+        ensures { IsTrue result → (u : Self) (keys more : List (List ℕ)) → ((key : List ℕ) → In key more → Begins (columns_in counts.now) key) → saw counts.now.shape u keys self.now → saw counts.now.shape u (keys ++ more) self.now }
     {
         false
     }

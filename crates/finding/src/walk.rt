@@ -15,6 +15,7 @@ fn walk<V: Visit>(begun: &Begun, visitor: &mut V)
         return;
     }
     let shape = begun.counts.shape();
+    // The unit words are these numbers themselves.
     for column in 0..shape.runs() {
         if let Some(opened) = begun.next(column) {
             if begun.left() > 1 {

@@ -17,6 +17,7 @@ impl Key {
         ensures { result.items ≡ with_alias (columns_of self.now) word }
     {
         let mut members = Few::new(0);
+        // The effects are these numbers themselves, in no list that could be gone through.
         for effect in 0..self.shape.effects() {
             if self.word(effect) == word {
                 members.push(effect).unwrap();

@@ -44,6 +44,7 @@ fn put_place(text: &mut Text, plot: u8, subplot: u8)
 }
 
 /// The run of a subplot.
+// Whole plot and subplot are no struct: each is the number of a loop of its own.
 fn run_in(shape: Shape, plot: u8, subplot: u8) -> u8
     requires plot { plot < 2 ^ shape.w }
     requires subplot { subplot < 2 ^ shape.s }
@@ -81,6 +82,7 @@ impl Key {
         requires room { length text.old.items + 17 * 2 ^ self.now.shape.s ≤ LONGEST }
         ensures { text.new.items ≡ text.old.items ++ plot_of self.now plot }
     {
+        // Subplots, and whole plots below, are these numbers themselves.
         for subplot in 0..self.shape.subplots() {
             self.put_row(text, plot, subplot);
         }

@@ -61,6 +61,7 @@ fn full(shape: Shape, columns: &[u8]) -> bool
 }
 
 /// Whether the columns are a sound key of the shape.
+// The shape and the columns are no struct: `Key::new` is given both, and it would be taken apart at once.
 fn sound(shape: Shape, columns: &[u8]) -> bool
     ensures { IsTrue result ↔ Sound (layers_of shape) (homes_of shape) columns.now }
 {

@@ -5,7 +5,7 @@ use Rattle.std.specs.declared.cmp.Ordering.{Ordering}
 use Rattle.std.specs.declared.cmp.Ordering.TheVariants.{Less, Equal, Greater}
 use Rattle.std.specs.Ordering.{ordering_reverse, is_gt}
 use Rattle.std.specs.Cmp.{IsTotalOrder}
-use Rattle.std.proofs.Common.{ap, subst}
+use Rattle.std.proofs.Common.{ap, subst, true≢false}
 use Rattle.std.proofs.lemmas.Cmp.{nat_cmp_total, tied_itself, upto}
 use Rattle.ranking.specs.declared.verdict.Verdict.{Verdict}
 use Rattle.ranking.specs.declared.verdict.Verdict.TheVariants.{Better, Level, Worse}
@@ -46,7 +46,7 @@ not_greater Greater up = absurd up
 holds_up : (r : Ordering) → is_gt r ≡ false → HoldsUp (verdict_of r)
 holds_up Less h = tt
 holds_up Equal h = tt
-holds_up Greater h = cc
+holds_up Greater h = absurd (true≢false h)
 
 -- of what a total order compares the lesser is better
 pub of_total : {S : Type 0} {cmp : S → S → Ordering} → IsTotalOrder cmp → Order (λ x y. verdict_of (cmp x y))

@@ -21,11 +21,6 @@ when_by false on off = off refl
 abbrev pub Unmet : List ℕ → List ℕ → Wish → Bool → Type 0
 Unmet ws cs wish r = MatchBool r (Meets ws cs wish → ⊥) (Meets ws cs wish)
 
--- what is told of a wish of the columns' factors tells whether they fail it
-pub fails_by : (ws cs : List ℕ) (wish : Wish) (r : Bool) → Formed (length cs) wish → Unmet ws cs wish r → MatchBool r (Fails ws cs wish) (Passes ws cs wish)
-fails_by ws cs wish true formed unmet = (formed, unmet)
-fails_by ws cs wish false formed met = λ _. met
-
 -- no key that begins with columns that fail a wish meets it
 pub fails_for_all : (ws cs : List ℕ) (wish : Wish) → Fails ws cs wish → MetByNone ws cs wish
 fails_for_all ws cs wish fails ds begins met =

@@ -8,6 +8,8 @@ use Rattle.theory.specs.declared.refusal.Refusal.TheVariants.{WishAbsent}
 use Rattle.wishes.specs.Standings.{striking}
 use Rattle.std.proofs.lemmas.Bool.{eqb-true, eq-eqb, and_parts, and_from, or_parts, or_from, not-true, not_from_false, both_ways, cases_Bool, cases_lt, lt-ltb, le-ltb, cond_both}
 use Rattle.std.proofs.lemmas.Bool.Decides.{Decides-by_or, Decides-by_and}
+use Rattle.std.proofs.lemmas.List.Elements.{All-filter}
+use Rattle.std.proofs.lemmas.List.Folds.{list_any-append, list_all-append}
 use Rattle.few.specs.declared.Full.{Full}
 use Rattle.few.specs.Few.{Few}
 use Rattle.theory.specs.declared.wish.Wish.{Wish}
@@ -62,17 +64,11 @@ pub all_formed_lem : (n : ℕ) (xs : List Wish) → Decides (all_formed n xs) (A
 all_formed_lem n xs = Decides-by_and (formed n) (Formed n) (all_formed n) (formed_fact n) refl (λ _ _. refl) xs
 
 stands_append : (xs ys : List Wish) (wish : Wish) → stands xs wish ≡ false → stands ys wish ≡ false → stands (xs ++ ys) wish ≡ false
-stands_append [] ys wish f g = g
-stands_append (x ∷ xs) ys wish f g =
-    let parts = or_parts (same_wish x wish) (stands xs wish) f in
-    or_from (same_wish x wish) (stands (xs ++ ys) wish) parts.0 (stands_append xs ys wish parts.1 g)
+stands_append xs ys wish f g = rw (list_any-append (λ x. same_wish x wish) xs ys, f, g) refl
 
 -- ---- a wish more
 pub formed_push : (n : ℕ) (xs : List Wish) (wish : Wish) → all_formed n xs ≡ true → formed n wish ≡ true → all_formed n (xs ++ wish ∷ []) ≡ true
-formed_push n [] wish all t = and_from (formed n wish) true t refl
-formed_push n (x ∷ xs) wish all t =
-    let parts = and_parts (formed n x) (all_formed n xs) all in
-    and_from (formed n x) (all_formed n (xs ++ wish ∷ [])) parts.0 (formed_push n xs wish parts.1 t)
+formed_push n xs wish all t = rw (list_all-append (formed n) xs (wish ∷ []), all, t) refl
 
 pub distinct_push : (xs : List Wish) (wish : Wish) → distinct xs ≡ true → stands xs wish ≡ false → distinct (xs ++ wish ∷ []) ≡ true
 distinct_push [] wish once f = refl
@@ -99,12 +95,7 @@ module _ (p : Wish → Bool) where
       (λ _. stands_kept xs wish parts.1)
 
   pub formed_kept : (n : ℕ) (xs : List Wish) → all_formed n xs ≡ true → all_formed n (filter p xs) ≡ true
-  formed_kept n [] all = all
-  formed_kept n (x ∷ xs) all =
-      let parts = and_parts (formed n x) (all_formed n xs) all in
-      cond_both (p x) (x ∷ filter p xs) (filter p xs) (λ ys. all_formed n ys ≡ true)
-      (λ _. and_from (formed n x) (all_formed n (filter p xs)) parts.0 (formed_kept n xs parts.1))
-      (λ _. formed_kept n xs parts.1)
+  formed_kept n xs all = (all_formed_lem n (filter p xs)).1 (All-filter p (Formed n) xs ((all_formed_lem n xs).0 all))
 
   pub distinct_kept : (xs : List Wish) → distinct xs ≡ true → distinct (filter p xs) ≡ true
   distinct_kept [] once = once

@@ -8,7 +8,7 @@ use Rattle.std.specs.List.{list_all}
 use Rattle.std.proofs.lemmas.Bool.Decides.{Decides-by_and}
 use Rattle.std.proofs.lemmas.List.Elements.{All-contains, Contains-from_at, Contains-get_or, at_from_Contains}
 use Rattle.std.proofs.lemmas.Nat.{one_shl}
-use Rattle.std.proofs.lemmas.Bool.{both_ways, cases_lt, cases_eq, cases_order, lt-ltb, le-ltb}
+use Rattle.std.proofs.lemmas.Bool.{false≢true, cases_lt, cases_eq, cases_order, lt-ltb, le-ltb}
 use Rattle.theory.specs.declared.wish.Wish.{Wish}
 use Rattle.theory.specs.declared.wish.Wish.TheVariants.{Clear, Apart, Fine, Word, Least}
 use Rattle.theory.specs.Wishes.{Low, Formed}
@@ -199,6 +199,9 @@ module _ (i j : ℕ) (order : i < j) where
   pub least_exchanged : (r : ℕ) → Least r ≡ wish_exchanged i j (Least r)
   least_exchanged r = sym (over_mapped (j - suc i) i (Least r))
 
+-- what `grind` needs of a wish with two factors exchanged
+pub ruleset exchanges = (clear_exchanged, apart_exchanged, fine_exchanged, word_exchanged, least_exchanged)
+
 -- ---- two factors
 
 -- the layers of factors are those of their neighbours all along
@@ -257,5 +260,5 @@ module _ (shape : Shape) (wishes : List Wish) (i j : ℕ) where
     λ may. is ∙ kept_blind.1 may.blind,
   )
 
-  pub exchange_refused : (r : Bool) → r ≡ false → Decides r Alike → Decides r (Exchangeable (homes_of shape) wishes i j)
-  exchange_refused r f alike = (λ t. absurd (both_ways r f t), λ may. alike.1 (alike_from may))
+  pub exchange_refused : (Alike → ⊥) → Decides false (Exchangeable (homes_of shape) wishes i j)
+  exchange_refused unlike = (λ t. absurd (false≢true t), λ may. absurd (unlike (alike_from may)))

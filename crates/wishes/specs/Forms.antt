@@ -1,5 +1,5 @@
 -- Wishes by kind and numbers. Assumes nothing.
-use Rattle.std.specs.Prelude.{◌≡◌, ℕ, Bool, cond, ◌&&◌, ◌||◌, Some, None, Ok, Err, Option, Result, ◌==◌, refl}
+use Rattle.std.specs.Prelude.{◌≡◌, ℕ, Bool, if◌then◌else◌, ◌&&◌, ◌||◌, Some, None, Ok, Err, Option, Result, ◌==◌, refl}
 use Rattle.std.specs.Int.Count.{ones, ones_in}
 use Rattle.theory.specs.declared.refusal.Refusal.{Refusal}
 use Rattle.theory.specs.declared.refusal.Refusal.TheVariants.{WishKind, WishForm}
@@ -12,20 +12,22 @@ use Rattle.wishes.specs.declared.forming.Kind.TheVariants as kinds
 -- the kind with this number, or a refusal where there is no such kind
 abbrev pub naming : ℕ → Result Kind Refusal
 naming number =
-    cond (number == 1) (Ok kinds.Clear)
-    (cond (number == 2) (Ok kinds.Apart)
-    (cond (number == 3) (Ok kinds.Fine)
-    (cond (number == 4) (Ok kinds.Word)
-    (cond (number == 5) (Ok kinds.Least) (Err WishKind)))))
+    if number == 1 then Ok kinds.Clear
+    else (if number == 2 then Ok kinds.Apart
+    else (if number == 3 then Ok kinds.Fine
+    else (if number == 4 then Ok kinds.Word
+    else (if number == 5 then Ok kinds.Least
+    else Err WishKind))))
 
 -- the wish of a kind with the numbers e and f; none where there is no such kind
 abbrev pub wish_of : ℕ → ℕ → ℕ → Option Wish
 wish_of kind e f =
-    cond (kind == 1) (Some (Clear e))
-    (cond (kind == 2) (Some (Apart e f))
-    (cond (kind == 3) (Some (Fine e))
-    (cond (kind == 4) (Some (Word e))
-    (cond (kind == 5) (Some (Least e)) None))))
+    if kind == 1 then Some (Clear e)
+    else (if kind == 2 then Some (Apart e f)
+    else (if kind == 3 then Some (Fine e)
+    else (if kind == 4 then Some (Word e)
+    else (if kind == 5 then Some (Least e)
+    else None))))
 
 -- f is 0 except for apart
 abbrev pub second_fits : ℕ → ℕ → Bool
@@ -35,7 +37,7 @@ second_fits kind f = kind == 2 || f == 0
 -- for apart alone?
 abbrev pub named : Bool → Option Wish → Result Wish Refusal
 named fits None = Err WishKind
-named fits (Some wish) = cond fits (Ok wish) (Err WishForm)
+named fits (Some wish) = if fits then Ok wish else Err WishForm
 
 abbrev pub wishing : ℕ → ℕ → ℕ → Result Wish Refusal
 wishing kind e f = named (second_fits kind f) (wish_of kind e f)
@@ -44,7 +46,7 @@ wishing kind e f = named (second_fits kind f) (wish_of kind e f)
 -- the numbers as it asks?
 abbrev pub checked : ℕ → Bool → Option Wish → Result Wish Refusal
 checked n fits None = Err WishKind
-checked n fits (Some wish) = cond (fits && formed n wish) (Ok wish) (Err WishForm)
+checked n fits (Some wish) = if fits && formed n wish then Ok wish else Err WishForm
 
 abbrev pub forming : ℕ → ℕ → ℕ → ℕ → Result Wish Refusal
 forming n kind e f = checked n (second_fits kind f) (wish_of kind e f)

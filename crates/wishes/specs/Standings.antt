@@ -1,5 +1,5 @@
 -- The wishes that stand, and how they change. Assumes nothing.
-use Rattle.std.specs.Prelude.{◌≡◌, ℕ, cond, List, [], ◌∷◌, length, Ok, Err, Result, nat_lt, refl}
+use Rattle.std.specs.Prelude.{◌≡◌, ℕ, if◌then◌else◌, List, [], ◌∷◌, length, Ok, Err, Result, nat_lt, refl}
 use Rattle.theory.specs.declared.refusal.Refusal.{Refusal}
 use Rattle.theory.specs.declared.refusal.Refusal.TheVariants.{WishForm, WishStands, WishesFull, WishAbsent}
 use Rattle.theory.specs.declared.wish.Wish.{Wish}
@@ -16,14 +16,11 @@ wishes_in standing = standing.wishes.items
 -- fewer than twelve stand?
 abbrev pub adding : ℕ → List Wish → Wish → Result Unit Refusal
 adding n xs wish =
-    cond (formed n wish)
-    (cond (stands xs wish) (Err WishStands)
-    (cond (nat_lt (length xs) 12) (Ok tt) (Err WishesFull)))
-    (Err WishForm)
+    if formed n wish then (if stands xs wish then Err WishStands else (if nat_lt (length xs) 12 then Ok tt else Err WishesFull)) else Err WishForm
 
 -- What striking a wish answers. Does this very wish stand?
 abbrev pub striking : List Wish → Wish → Result Unit Refusal
-striking xs wish = cond (stands xs wish) (Ok tt) (Err WishAbsent)
+striking xs wish = if stands xs wish then Ok tt else Err WishAbsent
 
 -- A granted call leaves the wishes xs and the shape as it was; a refused one leaves all as it was.
 abbrev pub Changed : Result Unit Refusal → Standing → Standing → List Wish → Type 0

@@ -39,6 +39,7 @@ impl TryFrom<u16> for Kind {
 /// The numbers that name a wish: its kind, and one or two more. The last is 0 except for apart.
 #[derive(Clone, Copy, Debug, PartialEq, Eq, Hash)]
 pub struct WishNumbers {
+    /// A number as it was given: it may be that of no kind.
     pub kind: u16,
     pub e: u16,
     pub f: u16,

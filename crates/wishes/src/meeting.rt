@@ -1,6 +1,6 @@
 //! Tests a wish on the first columns of a key.
 
-ghost use Rattle.std.specs.Prelude.{◌≡◌, true, length, MatchBool};
+ghost use Rattle.std.specs.Prelude.{◌≡◌, length, IsTrue, MatchBool};
 ghost use Rattle.theory.specs.Wishes.{Formed, Meets};
 ghost use Rattle.opening.specs.Shapes.{layers_of};
 ghost use Rattle.figures.specs.Counted.{columns_in};
@@ -36,7 +36,7 @@ fn is_unmet(counts: &Counts, wish: Wish) -> bool
 /// On the columns of a whole key this is whether the key does not meet the wish.
 pub fn fails(counts: &Counts, wish: Wish) -> bool
     ensures test { MatchBool result (Fails (layers_of counts.now.shape) (columns_in counts.now) wish) (Passes (layers_of counts.now.shape) (columns_in counts.now) wish) }
-    ensures front { result ≡ true → MetByNone (layers_of counts.now.shape) (columns_in counts.now) wish }
+    ensures front { IsTrue result → MetByNone (layers_of counts.now.shape) (columns_in counts.now) wish }
 {
     is_formed(counts.columns().len(), wish) && is_unmet(counts, wish)
 }

@@ -1,6 +1,6 @@
 //! Which wishes stand, and whether columns fail one.
 
-ghost use Rattle.std.specs.Prelude.{◌≡◌, true, All, MatchBool};
+ghost use Rattle.std.specs.Prelude.{◌≡◌, All, IsTrue, MatchBool};
 ghost use Rattle.opening.specs.Shapes.{layers_of};
 ghost use Rattle.figures.specs.Counted.{columns_in};
 ghost use Rattle.wishes.specs.Lists.{stands};
@@ -40,7 +40,7 @@ impl Standing {
     /// On the columns of a whole key this is whether the key does not meet all wishes that stand.
     pub fn any_fails(&self, counts: &Counts) -> bool
         ensures test { MatchBool result (SomeFails (layers_of counts.now.shape) (columns_in counts.now) (wishes_in self.now)) (All (Passes (layers_of counts.now.shape) (columns_in counts.now)) (wishes_in self.now)) }
-        ensures front { result ≡ true → AllMetByNone (layers_of counts.now.shape) (columns_in counts.now) (wishes_in self.now) }
+        ensures front { IsTrue result → AllMetByNone (layers_of counts.now.shape) (columns_in counts.now) (wishes_in self.now) }
     {
         self.wishes().iter().any(|wish| fails(counts, *wish))
     }

@@ -1,8 +1,8 @@
-use Rattle.std.proofs.Common.{ℕ, ◌^◌, ◌<◌, true, false, List, ◌++◌, sym, ◌∙◌, subst, subst₂, append-nil, arith, rules}
+use Rattle.std.proofs.Common.{ℕ, ◌^◌, ◌<◌, true, false, List, ◌++◌, refl, sym, ◌∙◌, subst, subst₂, append-nil, arith}
 use Rattle.opening.specs.declared.Shape.{Shape}
 use Rattle.opening.specs.Shapes.{units_of}
 use Rattle.finding.specs.Walks.{keys_after, branch_after, upto}
-use Rattle.finding.proofs.Walking.{step, room, branches, none_late, all_begin, no_branch, last_branch, one_left, some_branch}
+use Rattle.finding.proofs.Walking.{step, room, branches, none_late, all_begin, no_branch, last_branch, some_branch}
 use Rattle.finding.proofs.walk.+walk.Goals as goal
 use Rattle.finding.proofs.walk.+walk.Goals.{then-is_late-via-then-is_late, then-is_late-via-else-is_late+then-leave, in-Some+then-left-gt1, in-Some+else-left-gt1+then-is_all, in-Some+else-left-gt1+else-is_all, in_default}
 
@@ -11,12 +11,8 @@ returns-then-is_late g t c u keys h =
     let begun = c.args.begun.now in
     elim c.then-is_late.branch [
       | then-is_late-via-then-is_late w ↦ subst (λ ks. g.V.Visit.saw begun.counts.shape u ks c.args.visitor.now) (none_late begun keys (sym c.is_late.ensures ∙ w.if-is_late.true)) h
-      | then-is_late-via-else-is_late+then-leave w ↦ w.if-leave.ensures tt u keys (keys_after begun.counts begun.opened) (all_begin begun) h
+      | then-is_late-via-else-is_late+then-leave w ↦ w.if-leave.ensures refl u keys (keys_after begun.counts begun.opened) (all_begin begun) h
     ]
-
-pub walk-requires : goal.walk-requires
-walk-requires g t c κs within =
-    (omega (arith, c.left.ensures, one_left c.args.begun.now c.loop-column.column c.place.result.counts c.place.ensures.shape c.place.ensures.columns), search rules)
 
 pub loop-column-preserved : goal.loop-column-preserved
 loop-column-preserved g t c u keys h =
