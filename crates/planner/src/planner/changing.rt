@@ -46,6 +46,7 @@ impl<R: Ranking> Planner<R> {
         ensures { Goes R.scored R.ranked self.old (find result) self.new }
     {
         let key = first_best(&self.ranking, &self.standing).ok_or(Refusal::NoKey)?;
-        Ok(*self.plan.insert(key))
+        let plan = self.plan.insert(key);
+        Ok(*plan)
     }
 }
