@@ -23,6 +23,7 @@ pub struct Desk {
 fn chain_of(key: &Key, effect: u16) -> Result<Answer, Refusal>
     ensures { (line : ℕ) → outcome_text result line ≡ chain_told key.now effect line }
 {
+    // The question fills a lent buffer, as the C interface asks.
     let mut chain = [0; 32];
     let size = key.chain(effect, &mut chain)?;
     let mut list = Few::new(0);

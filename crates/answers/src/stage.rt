@@ -1,6 +1,5 @@
 //! How far a sheet has come, and what its next line is answered.
 
-ghost use Rattle.std.specs.Prelude.{◌≡◌, MatchResult};
 ghost use Rattle.sheet.specs.Left.{read_of, words_left};
 ghost use Rattle.lines.specs.Opens.{opens};
 ghost use Rattle.lines.specs.Ranks.{ranks};

@@ -1,5 +1,6 @@
 pub mod Reach
 pub mod Soundness
-pub mod Filling
+pub mod Members
 pub mod Rows
 pub mod Fronts
+pub mod Tests

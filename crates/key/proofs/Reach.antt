@@ -1,5 +1,5 @@
 -- The words that columns reach, one column after another.
-use Rattle.std.proofs.Common.{◌≡◌, ℕ, zero, suc, ◌+◌, ◌*◌, ◌/◌, ◌%◌, ◌^◌, ◌<◌, ◌≤◌, Bool, true, false, ◌||◌, ◌⊎◌, List, [], ◌∷◌, ◌++◌, length, get_or, take, set, replicate, Decides, sym, refl, ap, ◌∙◌, subst, inl, inr, true≢false, mod-lt, div-lt_iff_lt-mul, one-mul, pow-suc, zero-mul, add-one, arith, pow_pos}
+use Rattle.std.proofs.Common.{◌≡◌, ℕ, zero, suc, ◌+◌, ◌*◌, ◌/◌, ◌%◌, ◌^◌, ◌<◌, ◌≤◌, Bool, true, false, ◌||◌, ◌⊎◌, List, [], ◌∷◌, ◌++◌, length, get_or, take, set, replicate, IsTrue, ◌↔◌, sym, refl, ap, ◌∙◌, subst, inl, inr, true≢false, mod-lt, div-lt_iff_lt-mul, one-mul, pow-suc, zero-mul, add-one, arith, pow_pos}
 use mathlib.Core.Bool.{Bool-set}
 use mathlib.Core.Logic.{∥∥₁_elim, ∥∥₁_map}
 use native.Mathlib.Nat.{div-eq_of_lt}
@@ -58,7 +58,7 @@ module _ (cs : List ℕ) (c v : ℕ) where
           go (suc (suc d)) s l = absurd (omega arith)
 
   -- the marks of one more column
-  pub reach_more : (a b : Bool) → Decides a (Reach cs v) → Decides b (Reach cs (bit_xor v c)) → Decides (a || b) (Reach (cs ++ c ∷ []) v)
+  pub reach_more : (a b : Bool) → (IsTrue a ↔ Reach cs v) → (IsTrue b ↔ Reach cs (bit_xor v c)) → (IsTrue (a || b) ↔ Reach (cs ++ c ∷ []) v)
   reach_more a b p q = (
     λ t. by (or_cases a b t),
     reach_cases ((a || b) ≡ true) (Bool-set (a || b) true) (λ r. or_left a b (p.1 r)) (λ r. or_right a b (q.1 r)),
@@ -69,7 +69,7 @@ module _ (cs : List ℕ) (c v : ℕ) where
       by (inr e) = reach_new (q.0 e)
 
 -- no column reaches 0 alone
-pub reach_none : (v : ℕ) (a : Bool) → (v ≡ 0 → a ≡ true) → ((v ≡ 0 → ⊥) → a ≡ false) → Decides a (Reach [] v)
+pub reach_none : (v : ℕ) (a : Bool) → (v ≡ 0 → a ≡ true) → ((v ≡ 0 → ⊥) → a ≡ false) → (IsTrue a ↔ Reach [] v)
 reach_none v a yes' no' = (λ t. by t (cases_eq v 0), λ r. ∥∥₁_elim r (Bool-set a true) (λ x. yes' (sym x.2)))
   where
     by : a ≡ true → (v ≡ 0) ⊎ (v ≡ 0 → ⊥) → Reach [] v
@@ -77,17 +77,17 @@ reach_none v a yes' no' = (λ t. by t (cases_eq v 0), λ r. ∥∥₁_elim r (Bo
     by t (inr n) = absurd (true≢false (sym t ∙ no' n))
 
 -- the one mark at the start is of word 0
-pub marks_none : (v : ℕ) → v < 32 → Decides (get_or (set (replicate 32 false) 0 true) v false) (Reach [] v)
+pub marks_none : (v : ℕ) → v < 32 → (IsTrue (get_or (set (replicate 32 false) 0 true) v false) ↔ Reach [] v)
 marks_none zero h = reach_none zero true (λ _. refl) (λ n. absurd (n refl))
 marks_none (suc v) h = reach_none (suc v) (get_or (replicate 31 false) v false) (λ e. absurd (omega arith)) (λ _. get_or-replicate 31 v false false (omega arith))
 
 -- the marks after column i, where b is the mark of v
-pub marks_more : (cs : List ℕ) (i v : ℕ) (a b d : Bool) → i < length cs → Decides a (Reach (take i cs) v) → Decides b (Reach (take i cs) (bit_xor v (get_or cs i 0)))
-    → d ≡ (a || b) → Decides d (Reach (take (i + 1) cs) v)
+pub marks_more : (cs : List ℕ) (i v : ℕ) (a b d : Bool) → i < length cs → (IsTrue a ↔ Reach (take i cs) v) → (IsTrue b ↔ Reach (take i cs) (bit_xor v (get_or cs i 0)))
+    → d ≡ (a || b) → (IsTrue d ↔ Reach (take (i + 1) cs) v)
 marks_more cs i v a b d h p q e =
-    subst (λ (x : Bool). Decides x (Reach (take (i + 1) cs) v)) (sym e)
-    (subst (λ (xs : List ℕ). Decides (a || b) (Reach xs v)) (sym (take_more cs i 0 h)) (reach_more (take i cs) (get_or cs i 0) v a b p q))
+    subst (λ (x : Bool). IsTrue x ↔ Reach (take (i + 1) cs) v) (sym e)
+    (subst (λ (xs : List ℕ). IsTrue (a || b) ↔ Reach xs v) (sym (take_more cs i 0 h)) (reach_more (take i cs) (get_or cs i 0) v a b p q))
 
 -- after the last column they are of all columns
-pub marks_all : (cs : List ℕ) (i v : ℕ) (b : Bool) → length cs ≤ i → Decides b (Reach (take i cs) v) → Decides b (Reach cs v)
-marks_all cs i v b h d = subst (λ (xs : List ℕ). Decides b (Reach xs v)) (take_all i cs h) d
+pub marks_all : (cs : List ℕ) (i v : ℕ) (b : Bool) → length cs ≤ i → (IsTrue b ↔ Reach (take i cs) v) → (IsTrue b ↔ Reach cs v)
+marks_all cs i v b h d = subst (λ (xs : List ℕ). IsTrue b ↔ Reach xs v) (take_all i cs h) d

@@ -1,5 +1,5 @@
 -- What the questions to a key answer. Assumes nothing.
-use Rattle.std.specs.Prelude.{◌≡◌, ℕ, ◌^◌, Bool, cond, List, [], ◌∷◌, ◌++◌, length, take, drop, Ok, Err, Option, Result, MatchOption, nat_le, nat_lt, refl}
+use Rattle.std.specs.Prelude.{◌≡◌, ℕ, ◌^◌, Bool, List, [], ◌∷◌, ◌++◌, length, drop, Ok, Err, Option, Result, MatchOption, nat_le, nat_lt, refl}
 use Rattle.theory.specs.declared.refusal.Refusal.{Refusal}
 use Rattle.theory.specs.declared.refusal.Refusal.TheVariants.{NoRun, NoEffect, ShortBuffer}
 use Rattle.theory.specs.declared.sign.Sign.{Sign}
@@ -9,12 +9,12 @@ use Rattle.theory.specs.Keys.{Sound}
 use Rattle.theory.specs.Signs.{Halves, PlotHalves}
 use Rattle.opening.specs.declared.Shape.{Shape}
 use Rattle.key.specs.declared.Key.{Key}
-use Rattle.opening.specs.Shapes.{layers_of, homes_of, units_of, factors_of, size_of_chain, stratum_in}
+use Rattle.opening.specs.Shapes.{layers_of, homes_of, units_of, factors_of, size_of_chain, stratum_in, granted}
 use Rattle.key.specs.Layouts.{signs_text, row_text, plot_text, layout_text}
 
 -- the columns of a key, in factor order
 abbrev pub columns_of : Key → List ℕ
-columns_of key = take (factors_of key.shape) key.columns
+columns_of key = key.columns.items
 
 -- the alias of an effect
 abbrev pub word_of : Key → ℕ → ℕ
@@ -29,11 +29,6 @@ Making shape cs r =
 
 -- ---- checks
 
--- the answer where every check passes, and else the refusal of the first that says 'no'
-abbrev pub granted : {A : Type 0} → List (Bool × Refusal) → A → Result A Refusal
-granted [] answer = Ok answer
-granted (check ∷ checks) answer = cond check.0 (granted checks answer) (Err check.1)
-
 abbrev pub effect_check : Key → ℕ → Bool × Refusal
 effect_check key effect = (nat_lt effect (2 ^ factors_of key.shape), NoEffect)
 
@@ -44,7 +39,7 @@ abbrev pub room_check : ℕ → ℕ → Bool × Refusal
 room_check size room = (nat_le size room, ShortBuffer)
 
 -- a buffer after a call that was to fill it with the content, told how the call was answered: where it is refused, as it was
-abbrev pub filled : Result ℕ Refusal → List ℕ → List ℕ → List ℕ
+abbrev pub filled : {A : Type 0} → Result ℕ Refusal → List A → List A → List A
 filled (Ok size) content out = content ++ drop size out
 filled (Err why) content out = out
 
@@ -89,9 +84,6 @@ layout_of key = layout_text key.shape.w key.shape.s (columns_of key)
 abbrev pub layout_answer : Key → ℕ → Result ℕ Refusal
 layout_answer key room = granted (room_check (length (layout_of key)) room ∷ []) (length (layout_of key))
 
--- an effect beyond the last, and two numbers in a buffer of three places
-example_refused : granted {A = ℕ} ((nat_lt 16 (2 ^ 4), NoEffect) ∷ []) 2 ≡ Err NoEffect
-example_refused = refl
-
-example_filled : filled (Ok 2) (7 ∷ 8 ∷ []) (1 ∷ 2 ∷ 3 ∷ []) ≡ 7 ∷ 8 ∷ 3 ∷ []
+-- two numbers in a buffer of three places
+example_filled : filled {A = ℕ} (Ok 2) (7 ∷ 8 ∷ []) (1 ∷ 2 ∷ 3 ∷ []) ≡ 7 ∷ 8 ∷ 3 ∷ []
 example_filled = refl

@@ -1,10 +1,12 @@
 //! What a key says of an effect: its alias, its stratum, its sign.
 
-ghost use Rattle.std.specs.Prelude.{◌≡◌, ℕ, length};
+ghost use Rattle.std.specs.Prelude.{◌≡◌, ◌^◌, ◌<◌, [], ◌∷◌, length, IfOk};
 ghost use Rattle.theory.specs.Words.{sign};
-ghost use Rattle.key.specs.Questions.{columns_of, word_of, alias_answer, sign_answer, SignLaws, key_answer, filled};
+ghost use Rattle.opening.specs.Shapes.{units_of, granted};
+ghost use Rattle.key.specs.Questions.{columns_of, word_of, effect_check, alias_answer, sign_answer, SignLaws, key_answer, filled};
 
 use super::Key;
+use super::filling::fill;
 use figures::alias::product;
 use opening::Shape;
 use theory::refusal::Refusal;
@@ -34,24 +36,32 @@ impl Key {
     pub fn columns(&self) -> &[u8]
         ensures { result.now ≡ columns_of self.now }
     {
-        &self.columns[0..usize::from(self.shape.factors())]
+        self.columns.as_slice()
     }
 
     /// The alias of an effect.
-    pub(crate) fn word(&self, effect: u16) -> u8
+    pub(super) fn word(&self, effect: u16) -> u8
         ensures { result ≡ word_of self.now effect }
     {
         product(self.columns(), effect)
+    }
+
+    /// The same, of a number that may be no effect's.
+    pub(super) fn known_word(&self, effect: u16) -> Result<u8, Refusal>
+        ensures answer { result ≡ granted (effect_check self.now effect ∷ []) (word_of self.now effect) }
+        ensures word { IfOk result (λ word. (word ≡ word_of self.now effect) × (word < 2 ^ units_of self.now.shape)) }
+    {
+        if !self.shape.has_effect(effect) {
+            return Err(Refusal::NoEffect);
+        }
+        Ok(self.word(effect))
     }
 
     /// The unit word of an effect, and its stratum.
     pub fn alias(&self, effect: u16) -> Result<(u8, Stratum), Refusal>
         ensures { result ≡ alias_answer self.now effect }
     {
-        if !self.shape.has_effect(effect) {
-            return Err(Refusal::NoEffect);
-        }
-        let word = self.word(effect);
+        let word = self.known_word(effect)?;
         Ok((word, self.shape.stratum(word)))
     }
 
@@ -63,10 +73,7 @@ impl Key {
         if !self.shape.has_word(run) {
             return Err(Refusal::NoRun);
         }
-        if !self.shape.has_effect(effect) {
-            return Err(Refusal::NoEffect);
-        }
-        Ok(sign_of(self.word(effect), run))
+        Ok(sign_of(self.known_word(effect)?, run))
     }
 
     /// Writes the column of each factor, in factor order, and tells how many there are.
@@ -74,12 +81,6 @@ impl Key {
         ensures answer { result ≡ key_answer self.now (length out.old) }
         ensures buffer { out.new ≡ filled result (columns_of self.now) out.old }
     {
-        let columns = self.columns();
-        let n = columns.len();
-        if out.len() < n {
-            return Err(Refusal::ShortBuffer);
-        }
-        out[0..n].copy_from_slice(columns);
-        Ok(n)
+        fill(out, self.columns())
     }
 }

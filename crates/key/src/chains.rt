@@ -1,29 +1,29 @@
 //! Chains: the effects with one alias.
 
-ghost use Rattle.std.specs.Prelude.{◌≡◌, ◌^◌, ◌<◌, ◌≤◌, ◌++◌, length, drop};
+ghost use Rattle.std.specs.Prelude.{◌≡◌, ◌^◌, ◌<◌, length};
 ghost use Rattle.theory.specs.Chains.{with_alias, chain};
-ghost use Rattle.opening.specs.Shapes.{units_of, size_of_chain};
+ghost use Rattle.opening.specs.Shapes.{units_of};
 ghost use Rattle.key.specs.Questions.{columns_of, chain_answer, filled};
 
 use super::Key;
+use super::filling::fill;
+use few::Few;
 use theory::refusal::Refusal;
 
 impl Key {
-    /// Writes the effects with this alias, in rising number, and tells how many there are.
-    fn members(&self, word: u8, out: &mut [u16]) -> usize
-        requires word { word < 2 ^ units_of self.now.shape }
-        requires room { size_of_chain self.now.shape ≤ length out.old }
-        ensures answer { result ≡ size_of_chain self.now.shape }
-        ensures buffer { out.new ≡ with_alias (columns_of self.now) word ++ drop result out.old }
+    /// The effects with this alias, in rising number. No chain holds more than 2^5.
+    fn members(&self, word: u8) -> Few<u16, 32>
+        requires { word < 2 ^ units_of self.now.shape }
+        ensures { result.items ≡ with_alias (columns_of self.now) word }
     {
-        let mut count = 0;
+        let mut members = Few::new(0);
+        // The effects are these numbers themselves, in no list that could be gone through.
         for effect in 0..self.shape.effects() {
             if self.word(effect) == word {
-                out[count] = effect;
-                count += 1;
+                members.push(effect).unwrap();
             }
         }
-        count
+        members
     }
 
     /// Writes every effect of the effect's chain, in rising number, and tells how many there are.
@@ -31,12 +31,7 @@ impl Key {
         ensures answer { result ≡ chain_answer self.now effect (length out.old) }
         ensures buffer { out.new ≡ filled result (chain (columns_of self.now) effect) out.old }
     {
-        if !self.shape.has_effect(effect) {
-            return Err(Refusal::NoEffect);
-        }
-        if out.len() < self.shape.chain_size() {
-            return Err(Refusal::ShortBuffer);
-        }
-        Ok(self.members(self.word(effect), out))
+        let word = self.known_word(effect)?;
+        fill(out, self.members(word).as_slice())
     }
 }

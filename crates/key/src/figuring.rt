@@ -20,11 +20,9 @@ fn counted(shape: Shape, columns: &[u8]) -> Counts
     ensures shape { result.shape ≡ shape }
     ensures columns { columns_in result ≡ columns.now }
 {
-    let mut counts = Counts::new(shape);
-    for column in columns {
-        counts = counts.place(*column);
-    }
-    counts
+    columns
+        .iter()
+        .fold(Counts::new(shape), |counts, column| counts.place(*column))
 }
 
 impl Key {
@@ -32,12 +30,8 @@ impl Key {
     pub fn tally(&self) -> Tally
         ensures { result ≡ tally (layers_of self.now.shape) (columns_of self.now) }
     {
-        let columns = self.columns();
-        let last = columns.len() - 1;
-        match counted(self.shape, &columns[0..last]).tally_with(columns[last]) {
-            Some(tally) => tally,
-            None => unreachable(),
-        }
+        let (last, front) = self.columns().split_last().unwrap();
+        counted(self.shape, front).tally_with(*last).unwrap()
     }
 
     /// Its effects counted by alias and length.

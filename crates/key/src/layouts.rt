@@ -8,6 +8,7 @@ ghost use Rattle.key.specs.Questions.{signs_of, row_of, plot_of, layout_of, layo
 
 use super::Key;
 use super::asking::sign_of;
+use super::filling::fill;
 use few::Few;
 use opening::Shape;
 use text::{put_bytes, put_number};
@@ -43,6 +44,7 @@ fn put_place(text: &mut Text, plot: u8, subplot: u8)
 }
 
 /// The run of a subplot.
+// Whole plot and subplot are no struct: each is the number of a loop of its own.
 fn run_in(shape: Shape, plot: u8, subplot: u8) -> u8
     requires plot { plot < 2 ^ shape.w }
     requires subplot { subplot < 2 ^ shape.s }
@@ -80,6 +82,7 @@ impl Key {
         requires room { length text.old.items + 17 * 2 ^ self.now.shape.s ≤ LONGEST }
         ensures { text.new.items ≡ text.old.items ++ plot_of self.now plot }
     {
+        // Subplots, and whole plots below, are these numbers themselves.
         for subplot in 0..self.shape.subplots() {
             self.put_row(text, plot, subplot);
         }
@@ -103,12 +106,6 @@ impl Key {
         ensures buffer { out.new ≡ filled result (layout_of self.now) out.old }
         ensures bound { length (layout_of self.now) ≤ 544 }
     {
-        let text = self.rows();
-        let rows = text.as_slice();
-        if out.len() < rows.len() {
-            return Err(Refusal::ShortBuffer);
-        }
-        out[..rows.len()].copy_from_slice(rows);
-        Ok(rows.len())
+        fill(out, self.rows().as_slice())
     }
 }

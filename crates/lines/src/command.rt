@@ -46,6 +46,7 @@ fn none_left(mut line: Line<'_>) -> Result<(), LineFault>
 fn one_effect(mut line: Line<'_>, alphabet: Alphabet) -> Result<u16, LineFault>
     ensures { result ≡ read_of (only_effect alphabet) line.entry }
 {
+    // One word has to come and no other, which no single Option says.
     let (Some(group), None) = (line.next(), line.next()) else {
         return Err(line.count_fault());
     };

@@ -22,6 +22,7 @@ pub fn read_opening(mut line: Line<'_>) -> Result<Numbers, LineFault>
         line.next(),
         line.next(),
     );
+    // Four words have to come and no fifth, which no single Option says.
     let (Some(w), Some(s), Some(n1), Some(n2), None) = words else {
         return Err(count);
     };

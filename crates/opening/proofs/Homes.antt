@@ -23,7 +23,7 @@ module _ (shape : Shape) (i : ℕ) (within : i < factors_of shape) where
   pub home_named : home_of shape i ≡ Some (stratum_named (get_or (homes_of shape) i 0))
   home_named = ap (option_map stratum_named) (slice_get-get_or (homes_of shape) i 0 (omega (arith, length_homes shape.n1 shape.n2)))
 
-  layer_within : get_or (homes_of shape) i 0 ≤ 2
+  pub layer_within : get_or (homes_of shape) i 0 ≤ 2
   layer_within = elim (cases_lt i shape.n1) [
     | inl h ↦ omega (arith, home_whole shape.n1 shape.n2 i h)
     | inr h ↦ omega (arith, home_sub shape.n1 shape.n2 i h within)

@@ -1,7 +1,8 @@
 -- Shapes: which numbers open one, and its layers and factors. Assumes nothing.
-use Rattle.std.specs.Prelude.{◌≡◌, ℕ, ◌+◌, ◌-◌, ◌^◌, Bool, cond, ◌&&◌, List, [], ◌∷◌, Some, None, Option, Result, MatchResult, nat_le, option_map, slice_get, refl}
+use Rattle.std.specs.Prelude.{◌≡◌, ℕ, ◌+◌, ◌-◌, ◌^◌, Bool, cond, ◌&&◌, List, [], ◌∷◌, Some, None, Ok, Err, Option, Result, MatchResult, nat_le, nat_lt, option_map, slice_get, refl}
+use Rattle.std.specs.Option.{option_map_or}
 use Rattle.theory.specs.declared.refusal.Refusal.{Refusal}
-use Rattle.theory.specs.declared.refusal.Refusal.TheVariants.{WholePlotUnits, SubplotUnits, WholePlotFactors, SubplotFactors, FactorCount}
+use Rattle.theory.specs.declared.refusal.Refusal.TheVariants.{WholePlotUnits, SubplotUnits, WholePlotFactors, SubplotFactors, FactorCount, NoEffect}
 use Rattle.theory.specs.declared.stratum.Stratum.{Stratum}
 use Rattle.theory.specs.Words.{total, stratum}
 use Rattle.theory.specs.Strata.{stratum_named}
@@ -55,6 +56,10 @@ abbrev pub first_fault : List (Bool × Refusal) → Option Refusal
 first_fault [] = None
 first_fault (check ∷ checks) = cond check.0 (first_fault checks) (Some check.1)
 
+-- the answer where no check says 'no', and else that refusal
+abbrev pub granted : {A : Type 0} → List (Bool × Refusal) → A → Result A Refusal
+granted checks answer = option_map_or Err (first_fault checks) (Ok answer)
+
 abbrev pub opening_fault : ℕ → ℕ → ℕ → ℕ → Option Refusal
 opening_fault w s n1 n2 = first_fault (opening_checks w s n1 n2)
 
@@ -73,3 +78,7 @@ example_units = refl
 
 example_count : opening_fault 2 1 1 1 ≡ Some FactorCount
 example_count = refl
+
+-- an effect beyond the last
+example_refused : granted {A = ℕ} ((nat_lt 16 (2 ^ 4), NoEffect) ∷ []) 2 ≡ Err NoEffect
+example_refused = refl

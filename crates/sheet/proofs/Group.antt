@@ -1,11 +1,11 @@
 -- A letter group read letter by letter. Assumes nothing.
-use Rattle.std.proofs.Common.{◌≡◌, ℕ, ◌+◌, ◌*◌, ◌%◌, ◌^◌, ◌<◌, ◌≤◌, cond, leb, List, length, get_or, drop, Some, None, Option, sym, ap, ◌∙◌, mod-eq_of_lt, one-mul, pow-suc, add-one, arith, pow_mono, le-leb}
+use Rattle.std.proofs.Common.{◌≡◌, ℕ, ◌+◌, ◌*◌, ◌%◌, ◌^◌, ◌<◌, ◌≤◌, cond, leb, List, length, get_or, drop, Some, None, Option, option_and_then, sym, ap, ◌∙◌, mod-eq_of_lt, one-mul, pow-suc, add-one, arith, pow_mono, le-leb}
 use lib.Bits.{bit_or, or_shifted_r}
 use lib.Pow.{pow-lt}
 use Rattle.std.proofs.lemmas.List.{at_drop_more}
 use Rattle.std.proofs.lemmas.Bool.Decides.{nat_tests}
 use Rattle.sheet.specs.declared.letters.Alphabet.{Alphabet}
-use Rattle.sheet.specs.Letters.{factor, given, join_on}
+use Rattle.sheet.specs.Letters.{factor, join_on}
 
 -- every lettered factor has a bit
 pub factor_below : (a : Alphabet) (c i : ℕ) → factor a c ≡ Some i → i < 16
@@ -17,7 +17,7 @@ or_above m i h = let e = or_shifted_r 1 i m h in omega (arith, ap (bit_or m) (on
 
 join_more : (f : ℕ → Option ℕ) (next e : ℕ) (bs : List ℕ) (k i : ℕ) → k < length bs → f (get_or bs k 0) ≡ Some i → next ≤ i → join_on f next e (drop k bs) ≡ join_on f (i + 1) (e + 2 ^ i) (drop (k + 1) bs)
 join_more f next e bs k i h is up =
-    let step : join_on f next e (drop k bs) ≡ given (f (get_or bs k 0)) (λ i. cond (leb next i) (join_on f (i + 1) (e + 2 ^ i) (drop (k + 1) bs)) None) = at_drop_more (join_on f next e) bs k 0 h in
+    let step : join_on f next e (drop k bs) ≡ option_and_then (λ i. cond (leb next i) (join_on f (i + 1) (e + 2 ^ i) (drop (k + 1) bs)) None) (f (get_or bs k 0)) = at_drop_more (join_on f next e) bs k 0 h in
     step ∙ rw (is, le-leb next i up)
 
 below_next : (m i : ℕ) → m < 2 ^ i → m + 2 ^ i < 2 ^ (i + 1)

@@ -2,7 +2,7 @@
 --
 -- A plan has n1 whole-plot factors, lettered from A on, and n2 subplot factors, lettered from p on. Factors count
 -- from 0, whole-plot factors first. An effect is a number in which bit i stands for factor i.
-use Rattle.std.specs.Prelude.{◌≡◌, ℕ, zero, suc, ◌+◌, ◌-◌, ◌/◌, ◌%◌, ◌^◌, ◌<◌, Bool, true, cond, ◌&&◌, List, [], ◌∷◌, ◌++◌, Some, None, codes, Option, ◌==◌, nat_le, nat_lt, refl}
+use Rattle.std.specs.Prelude.{◌≡◌, ℕ, zero, suc, ◌+◌, ◌-◌, ◌/◌, ◌%◌, ◌^◌, ◌<◌, Bool, true, cond, ◌&&◌, List, [], ◌∷◌, ◌++◌, Some, None, codes, Option, option_and_then, ◌==◌, nat_le, nat_lt, refl}
 use Rattle.sheet.specs.declared.letters.Alphabet.{Alphabet}
 
 -- Whether all factors have letters: at most nine of a kind, and sixteen in all, as an effect has sixteen bits.
@@ -16,15 +16,10 @@ factor a c =
     (cond (nat_le 65 c && nat_lt c (65 + a.n1)) (Some (c - 65)) (cond (nat_le 112 c && nat_lt c (112 + a.n2)) (Some (a.n1 + (c - 112))) None))
     None
 
--- what comes of a value, where there is one
-abbrev pub given : Option ℕ → (ℕ → Option ℕ) → Option ℕ
-given None k = None
-given (Some i) k = k i
-
 -- the effect e with the factors of the letters cs, each of them factor `next` or above and above those before it
 abbrev pub join_on : (ℕ → Option ℕ) → ℕ → ℕ → List ℕ → Option ℕ
 join_on f next e [] = Some e
-join_on f next e (c ∷ cs) = given (f c) (λ i. cond (nat_le next i) (join_on f (i + 1) (e + 2 ^ i) cs) None)
+join_on f next e (c ∷ cs) = option_and_then (λ i. cond (nat_le next i) (join_on f (i + 1) (e + 2 ^ i) cs) None) (f c)
 
 -- the effect that a letter group writes: at least one letter, each of another factor, in factor order
 abbrev pub effect_of : Alphabet → List ℕ → Option ℕ

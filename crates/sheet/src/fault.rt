@@ -70,6 +70,7 @@ impl SheetFault {
     pub fn number(self) -> u8
         ensures { result ≡ fault_number self }
     {
+        // The numbers stand in one table, since a case that holds a place has none of its own.
         match self {
             SheetFault::Form => 31,
             SheetFault::Line(LineFault::Word(WordFault::Unknown(_))) => 32,

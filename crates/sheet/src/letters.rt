@@ -1,5 +1,5 @@
 //! Letters of factors, and letter groups of effects.
-ghost use Rattle.std.specs.Prelude.{◌≡◌, ◌≤◌};
+ghost use Rattle.std.specs.Prelude.{◌≡◌};
 ghost use Rattle.text.specs.Texts.{written};
 ghost use Rattle.sheet.specs.Letters.{factor, effect_of, letter_of, letters_of, LettersStand};
 
@@ -33,7 +33,8 @@ impl Alphabet {
         whole_plot.or(subplot.map(|factor| self.n1 + factor))
     }
 
-    /// The effect that a letter group writes: at least one letter, each of another factor, in factor order.
+    /// The effect that a letter group writes: at least one letter, each of another factor, in
+    /// factor order.
     pub fn effect(self, bytes: &[u8]) -> Option<u16>
         ensures { result ≡ effect_of self bytes.now }
     {
@@ -60,6 +61,7 @@ pub fn letter(n1: u8, factor: u8) -> u8
     ensures { result ≡ letter_of n1 factor }
 {
     if factor >= 16 {
+        // No number is refused a letter, so that the call cannot fail.
         b'?'
     } else if factor < n1 {
         b'A' + factor
@@ -77,6 +79,7 @@ pub fn put_letters<const CAP: usize>(text: &mut Few<u8, CAP>, n1: u8, effect: u1
         return put_bytes(text, b"0");
     }
     let mut group = Few::<u8, 16>::new(b' ');
+    // The factors are the numbers themselves, in no list that could be gone through.
     for factor in 0..16 {
         if (effect >> factor) % 2 == 1 {
             let _ = group.push(letter(n1, factor));

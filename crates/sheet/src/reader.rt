@@ -11,11 +11,11 @@ pub struct Reader<'a> {
     ghost counted: { line + length rest.now < 2 ^ 64 },
 }
 
-/// Walks over the words of one line. The next one begins at `at`, from which its column is counted, so
-/// what is left is not kept beside it.
+/// Walks over the words of one line.
 #[derive(Drop)]
 pub struct Line<'a> {
     bytes: &'a [u8],
+    // Where the next word begins: its column needs the index, so the rest is not kept instead.
     at: usize,
     number: usize,
 }

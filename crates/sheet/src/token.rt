@@ -47,19 +47,22 @@ impl Token<'_> {
     pub fn number(self) -> Result<u16, WordFault>
         ensures { result ≡ number_in self.entry }
     {
-        match self {
-            Token::Number(part) => number(part.bytes).ok_or(self.fault()),
-            _ => Err(self.fault()),
-        }
+        let read = match self {
+            Token::Number(part) => number(part.bytes),
+            _ => None,
+        };
+        read.ok_or(self.fault())
     }
 
     /// The effect that the token writes with a plan's letters.
     pub fn effect(self, alphabet: Alphabet) -> Result<u16, WordFault>
         ensures { result ≡ effect_in alphabet self.entry }
     {
-        match self {
-            Token::Letters(part) => alphabet.effect(part.bytes).ok_or(self.fault()),
-            _ => Err(self.fault()),
-        }
+        // Like `number` in shape, but of another case and another reading, which no type tells apart.
+        let read = match self {
+            Token::Letters(part) => alphabet.effect(part.bytes),
+            _ => None,
+        };
+        read.ok_or(self.fault())
     }
 }

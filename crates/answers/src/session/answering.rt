@@ -35,9 +35,16 @@ impl<'a> Session<'a> {
         ensures told { Told outcome result self.new.stage }
         ensures reader { self.new.reader ≡ self.old.reader }
     {
-        let (answer, after) = outcome.unwrap_or_else(|fault| (Answer::Fault(fault), Stage::Over));
-        self.stage = after;
-        answer
+        match outcome {
+            Ok((answer, after)) => {
+                self.stage = after;
+                answer
+            }
+            Err(fault) => {
+                self.stage = Stage::Over;
+                Answer::Fault(fault)
+            }
+        }
     }
 
     /// Writes the answer to the next line into the buffer, past the end nothing, and tells its length.

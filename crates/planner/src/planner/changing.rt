@@ -47,7 +47,7 @@ impl<R: Ranking> Planner<R> {
         ensures { Goes R.scored R.ranked self.old (find result) self.new }
     {
         let key = first_best(&self.ranking, &self.standing).ok_or(Refusal::NoKey)?;
-        self.plan = Some(key);
-        Ok(key)
+        let plan = self.plan.insert(key);
+        Ok(*plan)
     }
 }

@@ -1,4 +1,5 @@
-//! The text of an answer.
+//! The text of an answer. It is put together piece by piece, since of a `Display` no contract says that it
+//! succeeds where there is room.
 
 ghost use Rattle.std.specs.Prelude.{◌≡◌, ◌+◌, ◌*◌, ◌<◌, ◌≤◌, ◌++◌, length};
 ghost use Rattle.key.specs.Questions.{columns_of, layout_of};

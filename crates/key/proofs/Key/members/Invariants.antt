@@ -1,5 +1,7 @@
-use Rattle.key.proofs.Filling.{Held}
+use Rattle.std.proofs.Common.{◌≡◌}
+use Rattle.key.proofs.Members.{kept}
 use Rattle.key.proofs.Key.members.Given as goal
 
+-- those below the effect are gathered
 abbrev pub invariant-loop-effect : goal.invariant-loop-effect
-invariant-loop-effect l = Held l.self l.word l.effect l.initial.out l.count l.out
+invariant-loop-effect l = l.members.items ≡ kept l.self l.word l.effect

@@ -1,7 +1,7 @@
-use Rattle.std.proofs.Common.{ℕ, ◌^◌, ◌<◌, false, get_or, Decides, refl, arith}
+use Rattle.std.proofs.Common.{ℕ, ◌^◌, ◌<◌, false, get_or, IsTrue, ◌↔◌, refl, arith}
 use lib.Bits.{bit_xor, xor_lt}
 use Rattle.opening.specs.Shapes.{units_of}
-use Rattle.key.proofs.Soundness.{word_small}
+use Rattle.figures.proofs.Rooms.{word_small}
 use Rattle.key.proofs.Reach.{Reach, marks_none, marks_more, marks_all}
 use Rattle.key.proofs.making.full.Goals as goal
 
@@ -28,5 +28,5 @@ returns c = (
   λ h. c.all_seen.ensures.1 (λ v l. (mark v l).1 (h v l)),
 )
   where
-    mark : (v : ℕ) → v < 2 ^ units_of c.args.shape → Decides (get_or c.loop-column.seen v false) (Reach c.args.columns.now v)
+    mark : (v : ℕ) → v < 2 ^ units_of c.args.shape → IsTrue (get_or c.loop-column.seen v false) ↔ Reach c.args.columns.now v
     mark v l = marks_all c.args.columns.now c.loop-column.column-index v _ c.loop-column-test.false (c.loop-column.invariant.1 v (word_small c.args.shape v l))

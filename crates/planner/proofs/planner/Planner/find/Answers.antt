@@ -1,4 +1,4 @@
-use Rattle.std.proofs.Common.{Err, sym, refl, ap, ◌∙◌}
+use Rattle.std.proofs.Common.{Some, Err, sym, refl, ap, ◌∙◌}
 use Rattle.std.proofs.lemmas.Result.{err_from_is_err_and}
 use Rattle.planner.proofs.Changing.{not_found, found, none_found, one_found}
 use Rattle.planner.proofs.planner.Planner.find.Goals as goal
@@ -12,6 +12,6 @@ returns-in_err-key g c =
 
 pub returns : goal.returns
 returns g c =
-    found g.R.Ranking.scored g.R.Ranking.ranked c.args.self.now _ refl c.in_ok-key.key c.first_best.result
-    (one_found c.first_best.result c.in_ok-key.key (sym c.ok_or.ensures.value ∙ c.in_ok-key.was))
+    found g.R.Ranking.scored g.R.Ranking.ranked c.args.self.now _ refl c.insert-plan.result.now c.first_best.result
+    (one_found c.first_best.result c.in_ok-key.key (sym c.ok_or.ensures.value ∙ c.in_ok-key.was) ∙ ap Some (sym c.insert-plan.ensures.value))
     c.first_best.ensures.shape c.first_best.ensures.found refl refl

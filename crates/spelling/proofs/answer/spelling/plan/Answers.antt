@@ -21,7 +21,7 @@ returns c =
     let n1 = key.shape.n1 in
     let cs = columns_of key in
     let few = length_columns key in
-    let short = columns_le n1 cs (length cs) (λ i l. lt_of_lt_of_le (key.words i l) (pow_mono {j = 8} (omega arith))) in
+    let short = columns_le n1 cs (length cs) (λ i l. lt_of_lt_of_le (key.sound.words i l) (pow_mono {j = 8} (omega arith))) in
     let text = codes "key" ++ columns_text n1 cs in
     let start = begun (goal.at.returns c).After-put_bytes in
     let here : c.put_columns.new.text.items ≡ text = cc in

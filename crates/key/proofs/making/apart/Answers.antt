@@ -1,0 +1,14 @@
+use Rattle.std.proofs.Common.{rules, ◌≡◌, sym, ◌∙◌}
+use borrow.Author.Tests.{tests}
+use Rattle.std.specs.List.{list_all, enumerate_from}
+use Rattle.std.proofs.lemmas.Iterator.{YieldsList-from_slice}
+use Rattle.std.proofs.lemmas.Iterator.Consumers.{YieldsList-from_enumerate}
+use Rattle.std.proofs.lemmas.Iterator.Search.{all_from_yields_List}
+use Rattle.key.proofs.Tests.{apart_test, apart_is}
+use Rattle.key.proofs.making.apart.Goals as goal
+
+pub returns : goal.returns
+returns c =
+    let cs = c.args.columns.now in
+    let told : c.all.result ≡ list_all (apart_test cs) (enumerate_from 0 cs) = all_from_yields_List (apart_test cs) _ _ c.all.result c.all.ensures.ran (YieldsList-from_enumerate (YieldsList-from_slice cs cc) cc) (λ x b q k. search (rules, tests)) in
+    (λ t. (apart_is cs).0 (sym told ∙ t), λ a. told ∙ (apart_is cs).1 a)
