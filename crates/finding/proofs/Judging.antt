@@ -14,7 +14,7 @@ use Rattle.figures.specs.Counted.{columns_in, room_for}
 use Rattle.finding.specs.declared.judge.Kept.{Kept}
 use Rattle.finding.specs.Listing.{In, Before, Rising, Listed}
 use Rattle.finding.specs.Best.{FirstBest}
-use Rattle.finding.specs.Leading.{is_better, beats, Leads, Keeps}
+use Rattle.finding.specs.Leading.{is_better, beats, Leads, Keeps, Takes}
 use Rattle.finding.proofs.Lists.{in_right, in_either, before_irreflexive, before_asymmetric}
 
 module _ (Kind : List ℕ → Type 0) {ranks : List ℕ → List ℕ → Verdict} (o : Order ranks) where
@@ -129,9 +129,15 @@ module _ {R S : Type 0} (scored : R → Tally → S) (ranked : R → S → S →
     pub keep_old : b ≡ false → Keeps Kind score (ranked u) (keys ++ key ∷ []) best
     keep_old e = keeps_old Kind score (ranked u) (order u) keys key best was (beaten b asked ∙ e)
 
-    -- the new one takes its place
-    pub keep_new : b ≡ true → (made : Counts) → columns_in made ≡ key → Kind key → Keeps Kind score (ranked u) (keys ++ key ∷ []) (Some (record { counts = made; score = x }))
-    keep_new e made grown one = (
-      subst (Leads Kind (by_score score (ranked u)) (keys ++ key ∷ [])) (sym grown) (keeps_new Kind score (ranked u) (order u) keys key one best was (beaten b asked ∙ e)),
-      score_is ∙ ap score (sym grown),
+    -- the new one takes its place where it is of the kind
+    pub keep_taken : b ≡ true → (new : Option (Kept S)) → Takes Kind key x best new → Keeps Kind score (ranked u) (keys ++ key ∷ []) new
+    keep_taken e new (inl (other, same)) = rw same (keeps_on Kind score (ranked u) (order u) keys best was (key ∷ []) none)
+      where
+        none : (k : List ℕ) → In k (key ∷ []) → Kind k → ⊥
+        none k (inl i) one = other (subst Kind i one)
+        none k (inr i) one = absurd i
+    keep_taken e None (inr (one, is)) = absurd is
+    keep_taken e (Some kept) (inr (one, is)) = (
+      subst (Leads Kind (by_score score (ranked u)) (keys ++ key ∷ [])) (sym is.0) (keeps_new Kind score (ranked u) (order u) keys key one best was (beaten b asked ∙ e)),
+      is.1 ∙ score_is ∙ ap score (sym is.0),
     )

@@ -1,8 +1,8 @@
 -- Keys that fail no standing wish, and what is kept of them.
-use Rattle.std.proofs.Common.{◌≡◌, ℕ, Bool, true, false, cond, ◌↔◌, List, [], ◌∷◌, ◌++◌, length, take, All, Some, None, MatchBool, MatchOption, Option, sym, ap, ◌∙◌, subst, subst₂, inl, inr, append-nil, arith, length-append}
+use Rattle.std.proofs.Common.{◌≡◌, ℕ, Bool, true, ◌↔◌, List, ◌++◌, length, take, All, Some, None, MatchBool, MatchOption, Option, sym, ap, ◌∙◌, subst, arith, length-append}
 use lib.Seq.{take-append_seam}
 use Rattle.std.proofs.lemmas.List.Elements.{All-weaker}
-use Rattle.std.proofs.lemmas.Bool.Decides.{when_true, when_false}
+use Rattle.std.proofs.lemmas.Bool.Decides.{when_true}
 use Rattle.theory.specs.declared.tally.Tally.{Tally}
 use Rattle.theory.specs.declared.wish.Wish.{Wish}
 use Rattle.theory.specs.Tallies.{tally}
@@ -14,7 +14,7 @@ use Rattle.ranking.specs.declared.verdict.Verdict.{Verdict}
 use Rattle.ranking.specs.Orders.{Order}
 use Rattle.ranking.specs.OrdersLemmas.{through}
 use Rattle.figures.specs.declared.counts.Counts.{Counts}
-use Rattle.figures.specs.Counted.{columns_in, room_for}
+use Rattle.figures.specs.Counted.{columns_in}
 use Rattle.wishes.specs.declared.standing.Standing.{Standing}
 use Rattle.wishes.specs.Lists.{all_formed}
 use Rattle.wishes.specs.Standings.{wishes_in}
@@ -50,33 +50,6 @@ module _ (counts : Counts) (first now : Standing) (same : now ≡ first) (r : Bo
   keep_left score ranks order keys more best was t begin =
       keeps_on (PassesAll (layers_of counts.shape) (wishes_in first)) (λ (key : List ℕ). score (tally (layers_of counts.shape) key)) ranks order keys best was more
       (λ key i. none_passes t key (begin key i))
-
-  -- they are those of a key: the columns before, and the last one, which had room
-  module _ (begun : Counts) (column : ℕ) (fits : room_for begun column ≡ true) (Shape-is : counts.shape ≡ begun.shape)
-      (columns-are : columns_in counts ≡ cond (room_for begun column) (columns_in begun ++ column ∷ []) (columns_in begun)) where
-    abbrev whole : List ℕ
-    whole = columns_in begun ++ column ∷ []
-
-    grown : columns_in counts ≡ whole
-    grown = columns-are ∙ ap (λ (b : Bool). cond b whole (columns_in begun)) fits
-
-    pub passing : r ≡ false → (columns_in counts ≡ whole) × PassesAll (layers_of begun.shape) (wishes_in first) whole
-    passing f = (
-      grown,
-      subst₂ (λ (sh : Shape) (cs : List ℕ). PassesAll (layers_of sh) (wishes_in first) cs) Shape-is grown
-          (subst (λ (s : Standing). PassesAll (layers_of counts.shape) (wishes_in s) (columns_in counts)) same (when_false _ _ f test)),
-    )
-
-    pub keep_failed : {S : Type 0} (score : Tally → S) (ranks : S → S → Verdict) → Order ranks → (keys : List (List ℕ)) (best : Option (Kept S)) → KeepsPassing begun.shape (wishes_in first) score ranks keys best
-        → r ≡ true → KeepsPassing begun.shape (wishes_in first) score ranks (keys ++ whole ∷ []) best
-    keep_failed score ranks order keys best was t =
-        keeps_on (PassesAll (layers_of begun.shape) (wishes_in first)) (λ (key : List ℕ). score (tally (layers_of begun.shape) key)) ranks order keys best was (whole ∷ []) fails
-      where
-        fails : (key : List ℕ) → In key (whole ∷ []) → PassesAll (layers_of begun.shape) (wishes_in first) key → ⊥
-        fails key (inl e) =
-            subst (λ (sh : Shape). PassesAll (layers_of sh) (wishes_in first) key → ⊥) Shape-is
-            (none_passes t key ([], e ∙ sym grown ∙ sym (append-nil (columns_in counts))))
-        fails key (inr i) = absurd i
 
 -- ---- the standard keys that pass are those that meet the wishes
 pub sought : (shape : Shape) (wishes : List Wish) → all_formed (factors_of shape) wishes ≡ true → (key : List ℕ) → Wished shape wishes key ↔ (StandardIn shape key × PassesAll (layers_of shape) wishes key)

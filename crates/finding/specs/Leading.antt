@@ -1,5 +1,5 @@
 -- What is kept of keys that come one by one: the one that leads those of a kind. Assumes nothing.
-use Rattle.std.specs.Prelude.{◌≡◌, ℕ, Bool, true, false, List, [], ◌∷◌, ◌++◌, Some, None, Option, All, refl}
+use Rattle.std.specs.Prelude.{◌≡◌, ℕ, Bool, true, false, ◌⊎◌, List, [], ◌∷◌, ◌++◌, Some, None, Option, All, IsSomeAnd, refl}
 use Rattle.std.proofs.lemmas.List.Elements.{All-cons, All-nil}
 use Rattle.theory.specs.declared.tally.Tally.{Tally}
 use Rattle.theory.specs.declared.wish.Wish.{Wish}
@@ -41,6 +41,10 @@ pub record Leads (Kind : List ℕ → Type 0) (ranks : List ℕ → List ℕ →
 abbrev pub Keeps : {S : Type 0} → (List ℕ → Type 0) → (List ℕ → S) → (S → S → Verdict) → List (List ℕ) → Option (Kept S) → Type 0
 Keeps Kind score ranks keys None = (key : List ℕ) → In key keys → Kind key → ⊥
 Keeps Kind score ranks keys (Some kept) = Leads Kind (by_score score ranks) keys (columns_in kept.counts) × (kept.score ≡ score (columns_in kept.counts))
+
+-- A key and its score come in place of what was kept where the key is of the kind; else what was kept stays.
+abbrev pub Takes : {S : Type 0} → (List ℕ → Type 0) → List ℕ → S → Option (Kept S) → Option (Kept S) → Type 0
+Takes Kind key score old new = ((Kind key → ⊥) × (new ≡ old)) ⊎ (Kind key × IsSomeAnd new (λ kept. (columns_in kept.counts ≡ key) × (kept.score ≡ score)))
 
 -- the key meets each wish that is one of its factors
 abbrev pub PassesAll : List ℕ → List Wish → List ℕ → Type 0

@@ -1,10 +1,11 @@
 //! Keeps the first best of the keys that it is shown and that meet the standing wishes.
 
-ghost use Rattle.std.specs.Prelude.{◌≡◌};
-ghost use Rattle.figures.specs.Counted.{columns_in};
+ghost use Rattle.std.specs.Prelude.{◌≡◌, true, [], ◌∷◌, ◌++◌};
+ghost use Rattle.opening.specs.Shapes.{layers_of};
+ghost use Rattle.figures.specs.Counted.{columns_in, room_for};
 ghost use Rattle.wishes.specs.Standings.{wishes_in};
 ghost use Rattle.finding.specs.Best.{by_tally, Finding, Wished};
-ghost use Rattle.finding.specs.Leading.{beats, KeepsPassing};
+ghost use Rattle.finding.specs.Leading.{beats, KeepsPassing, PassesAll, Takes};
 
 use crate::visit::Visit;
 use crate::walk::visit_standard_keys;
@@ -37,25 +38,32 @@ impl<'a, R: Ranking> Judge<'a, R> {
             self.ranking.compare(score, &kept.score) == Verdict::Better
         })
     }
+
+    /// Takes the key of these columns and one more in place of the best so far, where it fails no wish.
+    fn take(&mut self, counts: &Counts, column: u8, score: R::Score)
+        ensures judge { (self.new.ranking.now ≡ self.old.ranking.now) × (self.new.standing.now ≡ self.old.standing.now) }
+        ensures best { room_for counts.now column ≡ true → Takes (PassesAll (layers_of counts.now.shape) (wishes_in self.old.standing.now)) (columns_in counts.now ++ column ∷ []) score self.old.best self.new.best }
+    {
+        let key = counts.place(column);
+        if !self.standing.any_fails(&key) {
+            self.best = Some(Kept { counts: key, score });
+        }
+    }
 }
 
 impl<'a, R: Ranking> Visit for Judge<'a, R> {
     ghost saw = { λ shape u keys v. (v.ranking.now ≡ u.ranking.now) × (v.standing.now ≡ u.standing.now) × KeepsPassing shape (wishes_in u.standing.now) (R.scored u.ranking.now) (R.ranked u.ranking.now) keys v.best };
 
-    /// The wishes are asked last, since few keys are better than the best so far.
+    /// The wishes are asked last, since few keys are better than the best so far. What few keys come to
+    /// is done apart, so that no place for counts is cleared for the others.
     fn visit(&mut self, counts: &Counts, column: u8) {
         let Some(tally) = counts.tally_with(column) else {
             return;
         };
         let score = self.ranking.score(&tally);
-        if !self.is_beaten_by(&score) {
-            return;
+        if self.is_beaten_by(&score) {
+            self.take(counts, column, score);
         }
-        let key = counts.place(column);
-        if self.standing.any_fails(&key) {
-            return;
-        }
-        self.best = Some(Kept { counts: key, score });
     }
 
     /// Keys that begin with columns that fail a wish fail it too.
