@@ -57,7 +57,7 @@ most_at (at.Orders desk) lines = lines
 abbrev pub most_left : Session → ℕ
 most_left session = most_at session.stage (length (lines_left session.reader))
 
--- one call for the next answer: none comes where none may still come
+-- One call for the next answer. None comes only where none may still come, and then nothing has changed.
 pub record Gives (before : Session) (given : Option Answer) (after : Session) : Type 0 where
   pub taken : Taken before (unwrap_or given Nothing) after
   pub last : IfNone given (most_left before ≡ 0)

@@ -1,9 +1,10 @@
 //! Opens a shape, and reads its sums.
 
-ghost use Rattle.std.specs.Prelude.{◌≡◌, ◌^◌, nat_lt};
+ghost use Rattle.std.specs.Prelude.{◌≡◌, ◌^◌, nat_lt, slice_index};
+ghost use Rattle.std.specs.Option.{option_map_or};
 ghost use Rattle.theory.specs.Words.{stratum};
 ghost use Rattle.theory.specs.Strata.{stratum_number};
-ghost use Rattle.opening.specs.Shapes.{Opening, layers_of, units_of, factors_of, size_of_chain, stratum_in, home_of};
+ghost use Rattle.opening.specs.Shapes.{Opening, layers_of, homes_of, units_of, factors_of, size_of_chain, stratum_in, home_of};
 
 use super::{Numbers, Shape};
 use theory::refusal::Refusal;
@@ -121,7 +122,8 @@ impl Shape {
 
     /// The layer of the factor with this index, from 0; none where there is no such factor.
     pub fn home(self, factor: usize) -> Option<Stratum>
-        ensures { result ≡ home_of self factor }
+        ensures name { result ≡ home_of self factor }
+        ensures number { option_map_or stratum_number result 0 ≡ slice_index (homes_of self) factor }
     {
         if factor < usize::from(self.n1) {
             Some(Stratum::WholePlots)

@@ -6,5 +6,5 @@ use Rattle.finding.proofs.begun.Begun.is_in_layer.Goals as goal
 pub returns : goal.returns
 returns c =
     let begun = c.args.self.now in
-    rw (c.eq.ensures, c.home.ensures, c.stratum.ensures.name, c.shape-shape.ensures, c.columns.ensures)
+    rw (c.eq.ensures, c.home.ensures.name, c.stratum.ensures.name, c.shape-shape.ensures, c.columns.ensures)
     (layer_asked begun.counts.shape (length (columns_in begun.counts)) c.args.word begun.few)
