@@ -15,9 +15,9 @@ use wishes::forming::WishNumbers;
 enum Call {
     /// Opens a trial with w, s, n1 and n2.
     Open(u16, u16, u16, u16),
-    /// Adds the wish of a kind with two numbers.
+    /// Adds a wish by its numbers, as they are given: the kind, and two more. They may be those of no wish.
     Add(u16, u16, u16),
-    /// Strikes the wish of a kind with two numbers.
+    /// Strikes a wish by its numbers.
     Strike(u16, u16, u16),
     Find,
 }
