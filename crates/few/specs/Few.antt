@@ -1,13 +1,7 @@
--- What a contract sees of a `Few`. Assumes nothing.
-use Rattle.std.specs.Prelude.{List, refl}
-use Rattle.std.specs.Coded.{Coded, code_by, coded×, coded_list}
+-- What a `Few` holds. Assumes nothing.
+use Rattle.std.specs.Prelude.{◌≡◌, ℕ, List, ◌∷◌, [], take, refl}
+use Rattle.few.specs.declared.Few.{Few}
 
--- the values in order, and those of the unused places, of which no clause says anything
-pub record Few (T : Type 0) : Type 0 where
-  pub items : List T
-  pub spare : List T
-
--- it is stored as the pair of the two lists
-abbrev pub few_code : {T : Type 0} → Coded T → Coded (Few T)
-few_code {T} code =
-    code_by (List T × List T) (coded× (coded_list code) (coded_list code)) (λ few. (few.items, few.spare)) (λ p. record { items = p.0; spare = p.1 }) (λ _. refl)
+-- the values, in order; of the unused places no clause says anything
+abbrev pub items : {T : Type 0} {CAP : ℕ} → Few T CAP → List T
+items few = take few.size few.places

@@ -4,45 +4,39 @@
 
 ghost use Rattle.std.specs.Prelude.{◌≡◌, ◌+◌, ◌<◌, ◌≤◌, ◌==◌, ◌↔◌, [], ◌∷◌, ◌++◌, length, IsOk, OnOk, OnErr, OnSome, IfNone, slice_get, remove};
 
-use std::marker::Model;
+use std::alloc::AllocError;
 
 /// There is no room for what was to be added.
 #[derive(Clone, Copy, Debug, PartialEq, Eq)]
 pub struct Full;
 
-/// At most `CAP` values, in order, which lie in the value itself.
-// The kit's `ArrayVec` cannot be copied.
-#[derive(Clone, Copy)]
+/// At most `CAP` values, in order, which lie in the value itself: the first `size` of `places`.
+// The kit's `ArrayVec` cannot be copied. No `Model`, since what holds one is not copied when it is passed on
+// by value and used again.
+#[derive(Copy)]
 pub struct Few<T, const CAP: usize> {
     places: [T; CAP],
     size: usize,
+    ghost few: { size ≤ CAP },
+    ghost long: { length places ≡ CAP },
 }
 
-impl<T, const CAP: usize> Model for Few<T, CAP> {
-    ghost use Rattle.std.specs.Prelude.{◌≡◌, ◌≤◌, ◌++◌, length, take, drop};
-    ghost use Rattle.std.proofs.Common.{take-append-drop, length-take-le, arith};
-    ghost use Rattle.few.specs.Few.{Few as Items, few_code};
+impl<T: Copy, const CAP: usize> Clone for Few<T, CAP> {
+    ghost is_clone = { λ few copy. copy ≡ few };
 
-    ghost Value = { Items T };
+    ghost is_infallible = { λ _. Unit {0} };
 
-    ghost coded = { few_code T.code };
-
-    ghost view = { λ few. record { items = take few.size few.places; spare = drop few.size few.places } };
-
-    ghost invariant = { λ few. (few.size ≤ CAP) × (length few.places ≡ CAP) };
-
-    ghost inverse = { λ few. record { places = few.items ++ few.spare; size = length few.items } };
-
-    ghost inverse_ok = { λ few h i. record {
-      places = take-append-drop few.size few.places i;
-      size = length-take-le few.size few.places (omega (arith, h.0, h.1)) i;
-    } };
+    fn clone(&self) -> Result<Few<T, CAP>, AllocError> {
+        Ok(*self)
+    }
 }
 
 impl<T: Copy, const CAP: usize> Few<T, CAP> {
+    ghost use Rattle.few.specs.Few.{items};
+
     /// None yet. Unused places hold `blank`.
     pub fn new(blank: T) -> Self
-        ensures { result.items ≡ [] }
+        ensures { items result ≡ [] }
     {
         Few {
             places: [blank; CAP],
@@ -52,7 +46,7 @@ impl<T: Copy, const CAP: usize> Few<T, CAP> {
 
     /// How many there are.
     pub fn len(&self) -> usize
-        ensures value { result ≡ length self.now.items }
+        ensures value { result ≡ length (items self.now) }
         ensures fits { result ≤ CAP }
     {
         self.as_slice().len()
@@ -60,22 +54,22 @@ impl<T: Copy, const CAP: usize> Few<T, CAP> {
 
     /// Whether there is none.
     pub fn is_empty(&self) -> bool
-        ensures { result ≡ (length self.now.items == 0) }
+        ensures { result ≡ (length (items self.now) == 0) }
     {
         self.size == 0
     }
 
     /// Whether there is no room for one more.
     pub fn is_full(&self) -> bool
-        ensures value { result ≡ (length self.now.items == CAP) }
-        ensures fits { length self.now.items ≤ CAP }
+        ensures value { result ≡ (length (items self.now) == CAP) }
+        ensures fits { length (items self.now) ≤ CAP }
     {
         self.size == CAP
     }
 
     /// The values, in order.
     pub fn as_slice(&self) -> &[T]
-        ensures value { result.now ≡ self.now.items }
+        ensures value { result.now ≡ items self.now }
         ensures fits { length result.now ≤ CAP }
     {
         &self.places[..self.size]
@@ -83,10 +77,10 @@ impl<T: Copy, const CAP: usize> Few<T, CAP> {
 
     /// Adds a value at the end.
     pub fn push(&mut self, value: T) -> Result<(), Full>
-        ensures variant { IsOk result ↔ (length self.old.items < CAP) }
-        ensures ok { OnOk result (self.new.items ≡ self.old.items ++ value ∷ []) }
+        ensures variant { IsOk result ↔ (length (items self.old) < CAP) }
+        ensures ok { OnOk result (items self.new ≡ items self.old ++ value ∷ []) }
         ensures err { OnErr result (self.new ≡ self.old) }
-        ensures full { OnErr result (length self.old.items ≡ CAP) }
+        ensures full { OnErr result (length (items self.old) ≡ CAP) }
     {
         if self.is_full() {
             return Err(Full);
@@ -98,8 +92,8 @@ impl<T: Copy, const CAP: usize> Few<T, CAP> {
 
     /// Adds values at the end: all of them, or none where they do not fit.
     pub fn append(&mut self, values: &[T]) -> Result<(), Full>
-        ensures variant { IsOk result ↔ (length self.old.items + length values.now ≤ CAP) }
-        ensures ok { OnOk result (self.new.items ≡ self.old.items ++ values.now) }
+        ensures variant { IsOk result ↔ (length (items self.old) + length values.now ≤ CAP) }
+        ensures ok { OnOk result (items self.new ≡ items self.old ++ values.now) }
         ensures err { OnErr result (self.new ≡ self.old) }
     {
         if values.len() > CAP - self.size {
@@ -114,8 +108,8 @@ impl<T: Copy, const CAP: usize> Few<T, CAP> {
 
     /// Takes out the value at `index`, if there is one. The later ones move up.
     pub fn remove(&mut self, index: usize) -> Option<T>
-        ensures value { result ≡ slice_get self.old.items index }
-        ensures some { OnSome result (self.new.items ≡ remove self.old.items index) }
+        ensures value { result ≡ slice_get (items self.old) index }
+        ensures some { OnSome result (items self.new ≡ remove (items self.old) index) }
         ensures none { IfNone result (self.new ≡ self.old) }
     {
         if index >= self.size {

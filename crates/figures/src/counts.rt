@@ -1,6 +1,7 @@
 //! The first columns of a key, with how many effects on them have each alias and length.
 
 ghost use Rattle.std.specs.Prelude.{◌≡◌, ◌≤◌, length};
+ghost use Rattle.few.specs.Few.{items};
 ghost use Rattle.theory.specs.Keys.{Words};
 ghost use Rattle.opening.specs.Shapes.{layers_of};
 ghost use Rattle.figures.specs.Rows.{table_of};
@@ -21,7 +22,7 @@ pub struct Counts {
     shape: Shape,
     columns: Few<u8, 10>,
     table: [[u16; 11]; 32],
-    ghost few: { length columns.items ≤ 10 },
-    ghost words: { Words (layers_of shape) columns.items },
-    ghost counted: { table ≡ table_of columns.items },
+    ghost few: { length (items columns) ≤ 10 },
+    ghost words: { Words (layers_of shape) (items columns) },
+    ghost counted: { table ≡ table_of (items columns) },
 }

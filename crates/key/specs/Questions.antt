@@ -1,5 +1,6 @@
 -- What the questions to a key answer. Assumes nothing.
 use Rattle.std.specs.Prelude.{◌≡◌, ℕ, ◌^◌, Bool, List, [], ◌∷◌, ◌++◌, length, drop, Ok, Err, Option, Result, MatchOption, nat_le, nat_lt, refl}
+use Rattle.few.specs.Few.{items}
 use Rattle.theory.specs.declared.refusal.Refusal.{Refusal}
 use Rattle.theory.specs.declared.refusal.Refusal.TheVariants.{NoRun, NoEffect, ShortBuffer}
 use Rattle.theory.specs.declared.sign.Sign.{Sign}
@@ -14,7 +15,7 @@ use Rattle.key.specs.Layouts.{signs_text, row_text, plot_text, layout_text}
 
 -- the columns of a key, in factor order
 abbrev pub columns_of : Key → List ℕ
-columns_of key = key.columns.items
+columns_of key = items key.columns
 
 -- the alias of an effect
 abbrev pub word_of : Key → ℕ → ℕ

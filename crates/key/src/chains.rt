@@ -1,6 +1,7 @@
 //! Chains: the effects with one alias.
 
 ghost use Rattle.std.specs.Prelude.{◌≡◌, ◌^◌, ◌<◌, length};
+ghost use Rattle.few.specs.Few.{items};
 ghost use Rattle.theory.specs.Chains.{with_alias, chain};
 ghost use Rattle.opening.specs.Shapes.{units_of};
 ghost use Rattle.key.specs.Questions.{columns_of, chain_answer, filled};
@@ -14,7 +15,7 @@ impl Key {
     /// The effects with this alias, in rising number. No chain holds more than 2^5.
     fn members(&self, word: u8) -> Few<u16, 32>
         requires { word < 2 ^ units_of self.now.shape }
-        ensures { result.items ≡ with_alias (columns_of self.now) word }
+        ensures { items result ≡ with_alias (columns_of self.now) word }
     {
         let mut members = Few::new(0);
         // The effects are these numbers themselves, in no list that could be gone through.

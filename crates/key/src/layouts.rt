@@ -1,6 +1,7 @@
 //! The layout of a key: the signs of its factors in each run, as text.
 
 ghost use Rattle.std.specs.Prelude.{◌≡◌, ◌+◌, ◌*◌, ◌^◌, ◌<◌, ◌≤◌, [], ◌∷◌, ◌++◌, length};
+ghost use Rattle.few.specs.Few.{items};
 ghost use Rattle.theory.specs.Signs.{run_number};
 ghost use Rattle.opening.specs.Shapes.{factors_of};
 ghost use Rattle.key.specs.Layouts.{sign_code, place_text};
@@ -34,8 +35,8 @@ fn mark(sign: Sign) -> u8
 /// Adds a whole plot and a subplot, each counted from 1 and followed by a space.
 fn put_place(text: &mut Text, plot: u8, subplot: u8)
     requires few { (plot < 16) × (subplot < 16) }
-    requires room { length text.old.items + 6 ≤ LONGEST }
-    ensures { text.new.items ≡ text.old.items ++ place_text plot subplot }
+    requires room { length (items text.old) + 6 ≤ LONGEST }
+    ensures { items text.new ≡ items text.old ++ place_text plot subplot }
 {
     put_number(text, usize::from(plot) + 1);
     put_bytes(text, b" ");
@@ -56,8 +57,8 @@ fn run_in(shape: Shape, plot: u8, subplot: u8) -> u8
 impl Key {
     /// Adds the signs of the factors in a run.
     fn put_signs(&self, text: &mut Text, run: u8)
-        requires { length text.old.items + factors_of self.now.shape ≤ LONGEST }
-        ensures { text.new.items ≡ text.old.items ++ signs_of self.now run }
+        requires { length (items text.old) + factors_of self.now.shape ≤ LONGEST }
+        ensures { items text.new ≡ items text.old ++ signs_of self.now run }
     {
         for column in self.columns() {
             put_bytes(text, &[mark(sign_of(*column, run))]);
@@ -68,8 +69,8 @@ impl Key {
     fn put_row(&self, text: &mut Text, plot: u8, subplot: u8)
         requires plot { plot < 2 ^ self.now.shape.w }
         requires subplot { subplot < 2 ^ self.now.shape.s }
-        requires room { length text.old.items + 17 ≤ LONGEST }
-        ensures { text.new.items ≡ text.old.items ++ row_of self.now plot subplot }
+        requires room { length (items text.old) + 17 ≤ LONGEST }
+        ensures { items text.new ≡ items text.old ++ row_of self.now plot subplot }
     {
         put_place(text, plot, subplot);
         self.put_signs(text, run_in(self.shape, plot, subplot));
@@ -79,8 +80,8 @@ impl Key {
     /// Adds the rows of a whole plot.
     fn put_plot(&self, text: &mut Text, plot: u8)
         requires plot { plot < 2 ^ self.now.shape.w }
-        requires room { length text.old.items + 17 * 2 ^ self.now.shape.s ≤ LONGEST }
-        ensures { text.new.items ≡ text.old.items ++ plot_of self.now plot }
+        requires room { length (items text.old) + 17 * 2 ^ self.now.shape.s ≤ LONGEST }
+        ensures { items text.new ≡ items text.old ++ plot_of self.now plot }
     {
         // Subplots, and whole plots below, are these numbers themselves.
         for subplot in 0..self.shape.subplots() {
@@ -91,7 +92,7 @@ impl Key {
     /// The layout: a row for each subplot of each whole plot, both counted from 1, with the signs of
     /// the factors in its run.
     pub fn rows(&self) -> Few<u8, LONGEST>
-        ensures { result.items ≡ layout_of self.now }
+        ensures { items result ≡ layout_of self.now }
     {
         let mut text = Few::new(0);
         for plot in 0..self.shape.plots() {

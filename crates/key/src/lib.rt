@@ -2,6 +2,7 @@
 
 #![tactic(auto)]
 
+ghost use Rattle.few.specs.Few.{items};
 ghost use Rattle.theory.specs.Keys.{Sound};
 ghost use Rattle.opening.specs.Shapes.{layers_of, homes_of};
 
@@ -22,5 +23,5 @@ mod making;
 pub struct Key {
     shape: Shape,
     columns: Few<u8, 10>,
-    ghost sound: { Sound (layers_of shape) (homes_of shape) columns.items },
+    ghost sound: { Sound (layers_of shape) (homes_of shape) (items columns) },
 }

@@ -2,14 +2,36 @@
 
 #![tactic(auto)]
 
+ghost use Rattle.std.specs.Prelude.{◌≤◌, length, IfOk};
+
 use answers::session::Session;
 use sheet::form::MOST_BYTES;
 use std::io;
 use std::io::{Read, Write};
 
 /// One byte more than a sheet may have, so that a longer one is seen to be too long.
-// A constant's value calls no function, so `as` widens it.
-const MOST: u64 = MOST_BYTES as u64 + 1;
+const MOST: usize = MOST_BYTES + 1;
+
+/// Reads standard input to its end, or until `sheet` is full, and tells how many bytes there are.
+// Into a fixed place, since `read_to_end` wants one that grows, and a place from the heap may be refused.
+fn read_sheet(rt: &HostRuntime, sheet: &mut [u8]) -> io::Result<usize>
+    ensures { IfOk result (λ size. size ≤ length sheet.old) }
+{
+    let mut input = rt.stdin();
+    let mut size = 0;
+    // Each turn but the last reads a byte at least.
+    for _ in 0..MOST {
+        if size >= sheet.len() {
+            break;
+        }
+        let count = input.read(&mut sheet[size..])?;
+        if count == 0 {
+            break;
+        }
+        size += count;
+    }
+    Ok(size)
+}
 
 /// Answers a sheet line by line.
 fn answer_sheet(rt: &impl Print, sheet: &[u8]) -> io::Result<()> {
@@ -21,7 +43,7 @@ fn answer_sheet(rt: &impl Print, sheet: &[u8]) -> io::Result<()> {
 }
 
 fn main(rt: HostRuntime) -> io::Result<()> {
-    let mut sheet = Vec::new(rt.alloc());
-    rt.stdin().take(MOST).read_to_end(&mut sheet)?;
-    answer_sheet(&rt, &sheet)
+    let mut sheet = [0; MOST];
+    let size = read_sheet(&rt, &mut sheet)?;
+    answer_sheet(&rt, &sheet[..size])
 }

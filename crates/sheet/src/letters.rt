@@ -1,5 +1,6 @@
 //! Letters of factors, and letter groups of effects.
 ghost use Rattle.std.specs.Prelude.{◌≡◌};
+ghost use Rattle.few.specs.Few.{items};
 ghost use Rattle.text.specs.Texts.{written};
 ghost use Rattle.sheet.specs.Letters.{factor, effect_of, letter_of, letters_of, LettersStand};
 
@@ -73,7 +74,7 @@ pub fn letter(n1: u8, factor: u8) -> u8
 /// Adds the letters of an effect's factors to a text, `0` for the mean; where they do not fit, it
 /// changes nothing. Of the numbers of factors `n1` alone tells letters apart.
 pub fn put_letters<const CAP: usize>(text: &mut Few<u8, CAP>, n1: u8, effect: u16)
-    ensures { text.new.items ≡ written CAP text.old.items (letters_of n1 effect) }
+    ensures { items text.new ≡ written CAP (items text.old) (letters_of n1 effect) }
 {
     if effect == 0 {
         return put_bytes(text, b"0");

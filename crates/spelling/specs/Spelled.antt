@@ -2,6 +2,7 @@
 use Rattle.std.specs.Prelude.{◌≡◌, ℕ, ◌<◌, ◌≤◌, cond, List, [], ◌∷◌, ◌++◌, length, drop, Ok, Err, codes, decimal, Result, ◌==◌, slice_index, refl}
 use Rattle.std.specs.List.{range_with_len, flat_map}
 use Rattle.std.specs.Fmt.{digits}
+use Rattle.few.specs.Few.{items}
 use Rattle.theory.specs.Refusals.{refusal_number}
 use Rattle.theory.specs.declared.refusal.Refusal.{Refusal}
 use Rattle.theory.specs.declared.refusal.Refusal.TheVariants.{NoPlan, ShortBuffer}
@@ -47,7 +48,7 @@ abbrev pub answer_text : Answer → List ℕ
 answer_text Nothing = []
 answer_text (Plan key) = plan_text key.shape.n1 (columns_of key)
 answer_text (Rows key) = layout_of key
-answer_text (Chain effects) = effects_text effects.n1 effects.list.items
+answer_text (Chain effects) = effects_text effects.n1 (items effects.list)
 answer_text (Refused refusal line) = refused_text refusal line
 answer_text (Fault fault) = fault_text fault
 

@@ -1,5 +1,8 @@
 //! What a line of a sheet is answered.
 
+ghost use Rattle.std.specs.Prelude.{◌≤◌, length};
+ghost use Rattle.few.specs.Few.{items};
+
 use few::Few;
 use key::Key;
 use sheet::fault::SheetFault;
@@ -12,6 +15,7 @@ mod spelling;
 pub struct Effects {
     pub n1: u8,
     pub list: Few<u16, 32>,
+    ghost few: { length (items list) ≤ 32 },
 }
 
 /// The answer to a line.

@@ -1,5 +1,6 @@
 -- The wishes that stand, and how they change. Assumes nothing.
 use Rattle.std.specs.Prelude.{◌≡◌, ℕ, if◌then◌else◌, List, [], ◌∷◌, length, Ok, Err, Result, nat_lt, refl}
+use Rattle.few.specs.Few.{items}
 use Rattle.theory.specs.declared.refusal.Refusal.{Refusal}
 use Rattle.theory.specs.declared.refusal.Refusal.TheVariants.{WishForm, WishStands, WishesFull, WishAbsent}
 use Rattle.theory.specs.declared.wish.Wish.{Wish}
@@ -10,7 +11,7 @@ use Rattle.wishes.specs.Lists.{stands}
 
 -- the wishes that stand, in the order in which they came
 abbrev pub wishes_in : Standing → List Wish
-wishes_in standing = standing.wishes.items
+wishes_in standing = items standing.wishes
 
 -- What adding a wish answers, where there are n factors and the wishes xs stand. Is it formed? Is it not standing yet? Do
 -- fewer than twelve stand?

@@ -1,6 +1,7 @@
 //! The wishes that stand.
 
 ghost use Rattle.std.specs.Prelude.{◌≡◌, true};
+ghost use Rattle.few.specs.Few.{items};
 ghost use Rattle.opening.specs.Shapes.{factors_of};
 ghost use Rattle.wishes.specs.Lists.{all_formed, distinct};
 
@@ -15,12 +16,13 @@ mod reading;
 /// How many wishes can stand.
 pub const LIMIT: usize = 12;
 
-/// The wishes that were added to a trial and not struck since: each formed for the trial's factors
-/// and none twice.
+/// The wishes that were added to a trial and not struck since: at most twelve, each formed for the
+/// trial's factors and none twice.
 #[derive(Clone, Copy)]
 pub struct Standing {
     shape: Shape,
     wishes: Few<Wish, LIMIT>,
-    ghost formed: { all_formed (factors_of shape) wishes.items ≡ true },
-    ghost once: { distinct wishes.items ≡ true },
+    ghost few: { length (items wishes) ≤ 12 },
+    ghost formed: { all_formed (factors_of shape) (items wishes) ≡ true },
+    ghost once: { distinct (items wishes) ≡ true },
 }

@@ -2,6 +2,7 @@
 //! succeeds where there is room.
 
 ghost use Rattle.std.specs.Prelude.{◌≡◌, ◌+◌, ◌*◌, ◌<◌, ◌≤◌, ◌++◌, length};
+ghost use Rattle.few.specs.Few.{items};
 ghost use Rattle.key.specs.Questions.{columns_of, layout_of};
 ghost use Rattle.spelling.specs.Spelled.{column_text, columns_text, plan_text, effect_text, effects_text, refused_text, fault_text, answer_text, Put};
 
@@ -22,8 +23,8 @@ pub type Text = Few<u8, ROOM>;
 /// Adds a factor's letter and its column.
 // Of the numbers of factors `n1` alone tells letters apart, so it comes without the other.
 fn put_column(text: &mut Text, n1: u8, factor: u8, column: u8)
-    requires { length text.old.items + 6 ≤ ROOM }
-    ensures { text.new.items ≡ text.old.items ++ column_text n1 factor column }
+    requires { length (items text.old) + 6 ≤ ROOM }
+    ensures { items text.new ≡ items text.old ++ column_text n1 factor column }
 {
     put_bytes(text, b" ");
     put_bytes(text, &[letter(n1, factor), b'=']);
@@ -33,8 +34,8 @@ fn put_column(text: &mut Text, n1: u8, factor: u8, column: u8)
 /// Adds the letter and the column of each factor.
 fn put_columns(text: &mut Text, n1: u8, columns: &[u8])
     requires few { length columns.now ≤ 10 }
-    requires room { length text.old.items + 60 ≤ ROOM }
-    ensures { text.new.items ≡ text.old.items ++ columns_text n1 columns.now }
+    requires room { length (items text.old) + 60 ≤ ROOM }
+    ensures { items text.new ≡ items text.old ++ columns_text n1 columns.now }
 {
     for (factor, column) in columns.iter().enumerate() {
         put_column(text, n1, factor as u8, *column);
@@ -43,7 +44,7 @@ fn put_columns(text: &mut Text, n1: u8, columns: &[u8])
 
 /// `key` and each factor's column.
 fn plan(key: &Key) -> Text
-    ensures { result.items ≡ plan_text key.now.shape.n1 (columns_of key.now) }
+    ensures { items result ≡ plan_text key.now.shape.n1 (columns_of key.now) }
 {
     let mut text = Few::new(0);
     put_bytes(&mut text, b"key");
@@ -54,7 +55,7 @@ fn plan(key: &Key) -> Text
 
 /// The rows of a plan.
 fn rows(key: &Key) -> Text
-    ensures { result.items ≡ layout_of key.now }
+    ensures { items result ≡ layout_of key.now }
 {
     let mut text = Few::new(0);
     put_bytes(&mut text, key.rows().as_slice());
@@ -63,8 +64,8 @@ fn rows(key: &Key) -> Text
 
 /// Adds an effect as letters, with a space before it unless it is the first.
 fn put_effect(text: &mut Text, n1: u8, place: usize, effect: u16)
-    requires { length text.old.items + 17 ≤ ROOM }
-    ensures { text.new.items ≡ text.old.items ++ effect_text n1 place effect }
+    requires { length (items text.old) + 17 ≤ ROOM }
+    ensures { items text.new ≡ items text.old ++ effect_text n1 place effect }
 {
     if place > 0 {
         put_bytes(text, b" ");
@@ -74,7 +75,7 @@ fn put_effect(text: &mut Text, n1: u8, place: usize, effect: u16)
 
 /// Effects as letters, with spaces between them.
 fn chain(effects: &Effects) -> Text
-    ensures { result.items ≡ effects_text effects.now.n1 effects.now.list.items }
+    ensures { items result ≡ effects_text effects.now.n1 (items effects.now.list) }
 {
     let mut text = Few::new(0);
     for (place, effect) in effects.list.as_slice().iter().enumerate() {
@@ -86,7 +87,7 @@ fn chain(effects: &Effects) -> Text
 
 /// `no`, the refusal's number, `line` and the line.
 fn refused(refusal: Refusal, line: usize) -> Text
-    ensures { result.items ≡ refused_text refusal line }
+    ensures { items result ≡ refused_text refusal line }
 {
     let mut text = Few::new(0);
     put_bytes(&mut text, b"no ");
@@ -99,7 +100,7 @@ fn refused(refusal: Refusal, line: usize) -> Text
 
 /// `bad`, the fault's number, `line`, the line, `column` and the column.
 fn at_fault(fault: SheetFault) -> Text
-    ensures { result.items ≡ fault_text fault }
+    ensures { items result ≡ fault_text fault }
 {
     let place = fault.place();
     let mut text = Few::new(0);
@@ -116,7 +117,7 @@ fn at_fault(fault: SheetFault) -> Text
 impl Answer {
     /// The text of the answer.
     pub fn text(self) -> Text
-        ensures { result.items ≡ answer_text self }
+        ensures { items result ≡ answer_text self }
     {
         match self {
             Answer::Nothing => Few::new(0),

@@ -14,4 +14,4 @@ closed {X} xs n i lt le =
 
 pub returns-clause-some : goal.returns-clause-some
 returns-clause-some g c =
-    rw (c.copy_within.ensures.after, ← c.self.view_is) (closed c.self.inside.places c.self.inside.size c.args.index (omega arith) (omega arith))
+    rw c.copy_within.ensures.after (closed c.args.self.now.places c.args.self.now.size c.args.index (omega arith) (omega arith))

@@ -1,4 +1,5 @@
 use Rattle.std.proofs.Common.{rules, ◌≡◌, ℕ, ◌∷◌, ◌++◌, [], List, length, ap, sym, ◌∙◌, arith}
+use Rattle.few.specs.Few.{items}
 use Rattle.key.proofs.Members.{kept, kept_in, kept_out, kept_all, kept_room}
 use Rattle.key.proofs.Key.members.Goals as goal
 use Rattle.key.proofs.Key.members.Goals.{then-word, else-word}
@@ -15,10 +16,10 @@ loop-effect-preserved c =
     let i = c.loop-effect.effect in
     elim c.if-word.branch [
       | then-word w ↦
-          let more : c.if-word.members.items ≡ c.loop-effect.members.items ++ i ∷ [] = search rules in
+          let more : items c.if-word.members ≡ items c.loop-effect.members ++ i ∷ [] = search rules in
           more ∙ ap (λ (es : List ℕ). es ++ i ∷ []) c.loop-effect.invariant ∙ sym (kept_in key c.args.word i (sym c.word.ensures ∙ w.if-word.true))
       | else-word w ↦
-          let same : c.if-word.members.items ≡ c.loop-effect.members.items = search rules in
+          let same : items c.if-word.members ≡ items c.loop-effect.members = search rules in
           same ∙ c.loop-effect.invariant ∙ sym (kept_out key c.args.word i (λ e. w.if-word.false (c.word.ensures ∙ e)))
     ]
 

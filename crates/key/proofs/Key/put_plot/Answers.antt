@@ -1,4 +1,5 @@
 use Rattle.std.proofs.Common.{ℕ, ◌∙◌, arith, length-append}
+use Rattle.few.specs.Few.{items}
 use Rattle.key.specs.Questions.{row_of}
 use Rattle.text.proofs.Laws.{texts_more}
 use Rattle.key.proofs.Rows.{plot_le}
@@ -10,4 +11,4 @@ put_row-requires-clause-room c =
     rw c.loop-subplot.invariant (omega (arith, length-append {A = ℕ}))
 
 pub loop-subplot-preserved : goal.loop-subplot-preserved
-loop-subplot-preserved c = c.put_row.ensures ∙ rw c.loop-subplot.invariant (texts_more (row_of c.args.self.now c.args.plot) c.args.text.now.items c.loop-subplot.subplot)
+loop-subplot-preserved c = c.put_row.ensures ∙ rw c.loop-subplot.invariant (texts_more (row_of c.args.self.now c.args.plot) (items c.args.text.now) c.loop-subplot.subplot)

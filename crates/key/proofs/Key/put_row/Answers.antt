@@ -1,4 +1,5 @@
 use Rattle.std.proofs.Common.{ℕ, [], ◌∷◌, ◌++◌, codes, append_assoc, arith, length-append}
+use Rattle.few.specs.Few.{items}
 use Rattle.theory.specs.Signs.{run_number}
 use Rattle.key.specs.Layouts.{place_text}
 use Rattle.key.specs.Questions.{signs_of}
@@ -19,7 +20,7 @@ put_signs-requires c =
 pub returns : goal.returns
 returns c =
     let key = c.args.self.now in
-    let t = c.args.text.now.items in
+    let t = items c.args.text.now in
     let row = row_le key c.args.plot c.args.subplot c.requires.plot c.requires.subplot in
     let place = place_text c.args.plot c.args.subplot in
     let signs = signs_of key (run_number (key.shape.w ∷ []) c.args.plot c.args.subplot) in

@@ -1,4 +1,5 @@
 use Rattle.std.proofs.Common.{◌≡◌, ℕ, List, [], ◌∷◌, length, get_or, ap, ◌∙◌, append_assoc, arith, length-append}
+use Rattle.few.specs.Few.{items}
 use Rattle.theory.specs.Words.{sign}
 use Rattle.key.specs.Layouts.{sign_code}
 use Rattle.key.specs.Questions.{columns_of}
@@ -12,9 +13,9 @@ loop-column-preserved c =
     let cs = columns_of c.args.self.now in
     let u = c.args.run in
     let i = c.loop-column.column-index in
-    let t = c.args.text.now.items in
+    let t = items c.args.text.now in
     let same : c.mark.result ≡ sign_code (sign (get_or cs i 0) u) = c.mark.ensures ∙ ap sign_code (c.sign_of.ensures ∙ ap (λ (xs : List ℕ). sign (get_or xs i 0) u) c.columns-column-items.ensures) in
     let long = ap length c.columns-column-items.ensures ∙ length_columns c.args.self.now in
     let so = ap length c.loop-column.invariant ∙ length-append t (signs_to cs u i) in
-    let fits = written_fits 544 c.loop-column.text.items (c.mark.result ∷ []) (omega (arith, length_signs_to cs u i)) in
+    let fits = written_fits 544 (items c.loop-column.text) (c.mark.result ∷ []) (omega (arith, length_signs_to cs u i)) in
     c.put_bytes.ensures ∙ fits ∙ rw (c.loop-column.invariant, same, signs_more cs u i) (append_assoc t (signs_to cs u i) _)

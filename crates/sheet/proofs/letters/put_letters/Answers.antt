@@ -1,4 +1,5 @@
 use Rattle.std.proofs.Common.{◌≡◌, [], ◌∷◌, ◌++◌, ap, ◌∙◌, rules}
+use Rattle.few.specs.Few.{items}
 use Rattle.text.specs.Texts.{written}
 use Rattle.sheet.proofs.Spell.{turn_yes, turn_no, spelled}
 use Rattle.sheet.proofs.letters.put_letters.Goals as goal
@@ -8,12 +9,12 @@ pub loop-factor-preserved : goal.loop-factor-preserved
 loop-factor-preserved g c =
     elim c.if-effect-factor-eq1.branch [
       | then-effect-factor-eq1 w ↦
-          let grown : c.if-effect-factor-eq1.group.items ≡ c.loop-factor.group.items ++ w.letter.result ∷ [] = search rules in
+          let grown : items c.if-effect-factor-eq1.group ≡ items c.loop-factor.group ++ w.letter.result ∷ [] = search rules in
           turn_yes c.args.n1 c.args.effect _ c.loop-factor-test.true _ _ _ _ w.if-effect-factor-eq1.true w.letter.ensures grown c.loop-factor.invariant.1 c.loop-factor.invariant.0
-      | else-effect-factor-eq1 w ↦ turn_no c.args.n1 c.args.effect _ c.loop-factor-test.true _ _ _ w.if-effect-factor-eq1.false (ap (λ few. few.items) w.group-is) c.loop-factor.invariant.1 c.loop-factor.invariant.0
+      | else-effect-factor-eq1 w ↦ turn_no c.args.n1 c.args.effect _ c.loop-factor-test.true _ _ _ w.if-effect-factor-eq1.false (ap items w.group-is) c.loop-factor.invariant.1 c.loop-factor.invariant.0
     ]
 
 pub returns : goal.returns
 returns g c =
-    let whole = spelled c.args.n1 c.args.effect c.loop-factor.factor c.loop-factor.group.items c.if-effect-eq0.false c.loop-factor-test.false c.loop-factor.invariant.0 in
-    c.put_bytes-2.ensures ∙ ap (written g.row.CAP c.args.text.now.items) (c.as_slice.ensures.value ∙ whole)
+    let whole = spelled c.args.n1 c.args.effect c.loop-factor.factor (items c.loop-factor.group) c.if-effect-eq0.false c.loop-factor-test.false c.loop-factor.invariant.0 in
+    c.put_bytes-2.ensures ∙ ap (written g.row.CAP (items c.args.text.now)) (c.as_slice.ensures.value ∙ whole)

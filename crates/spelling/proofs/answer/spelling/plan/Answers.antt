@@ -1,4 +1,5 @@
 use Rattle.std.proofs.Common.{◌≡◌, [], ◌++◌, length, codes, ap, lt_of_lt_of_le, arith, pow_mono, length-append}
+use Rattle.few.specs.Few.{items}
 use Rattle.text.proofs.Laws.{written_fits}
 use Rattle.key.specs.Questions.{columns_of}
 use Rattle.key.proofs.Soundness.{length_columns}
@@ -7,7 +8,7 @@ use Rattle.spelling.proofs.Lengths.{columns_le}
 use Rattle.spelling.proofs.answer.spelling.plan.Goals as goal
 use Rattle.spelling.proofs.answer.spelling.plan.Goals.{After-put_bytes}
 
-begun : (c : After-put_bytes) → c.put_bytes.new.text.items ≡ codes "key"
+begun : (c : After-put_bytes) → items c.put_bytes.new.text ≡ codes "key"
 begun c =
     let fits = written_fits 1024 [] (codes "key") (omega arith) in
     cc
@@ -24,6 +25,6 @@ returns c =
     let short = columns_le n1 cs (length cs) (λ i l. lt_of_lt_of_le (key.sound.words i l) (pow_mono {j = 8} (omega arith))) in
     let text = codes "key" ++ columns_text n1 cs in
     let start = begun (goal.at.returns c).After-put_bytes in
-    let here : c.put_columns.new.text.items ≡ text = cc in
+    let here : items c.put_columns.new.text ≡ text = cc in
     let fits = written_fits 1024 text (codes "\n") (omega (arith, length-append (codes "key") (columns_text n1 cs))) in
     cc

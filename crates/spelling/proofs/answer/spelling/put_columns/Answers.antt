@@ -1,4 +1,5 @@
 use Rattle.std.proofs.Common.{ℕ, get_or, ◌∙◌, arith, length-append}
+use Rattle.few.specs.Few.{items}
 use Rattle.text.proofs.Laws.{texts_more}
 use Rattle.spelling.specs.Spelled.{column_text}
 use Rattle.spelling.proofs.Lengths.{columns_le}
@@ -12,4 +13,4 @@ put_column-requires c =
 
 pub loop-factor-preserved : goal.loop-factor-preserved
 loop-factor-preserved c =
-    c.put_column.ensures ∙ rw c.loop-factor.invariant (texts_more (λ i. column_text c.args.n1 i (get_or c.args.columns.now i 0)) c.args.text.now.items c.loop-factor.factor)
+    c.put_column.ensures ∙ rw c.loop-factor.invariant (texts_more (λ i. column_text c.args.n1 i (get_or c.args.columns.now i 0)) (items c.args.text.now) c.loop-factor.factor)

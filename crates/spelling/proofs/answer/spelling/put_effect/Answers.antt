@@ -1,5 +1,6 @@
 use Rattle.std.proofs.Common.{◌≡◌, ℕ, cond, eqb, List, [], ◌++◌, codes, sym, ◌∙◌, append_assoc, append-nil, arith, length-append}
 use Rattle.std.proofs.lemmas.Bool.{eq-eqb, ne_eqb}
+use Rattle.few.specs.Few.{items}
 use Rattle.sheet.specs.Letters.{letters_of}
 use Rattle.text.proofs.Laws.{written_fits}
 use Rattle.spelling.proofs.Lengths.{sixteen_letters, space_le}
@@ -8,11 +9,11 @@ use Rattle.spelling.proofs.answer.spelling.put_effect.Goals.{then-place-gt0, els
 
 pub returns : goal.returns
 returns c =
-    let t = c.args.text.now.items in
+    let t = items c.args.text.now in
     let place = c.args.place in
     let space : List ℕ = cond (eqb place 0) [] (codes " ") in
     let short = space_le (eqb place 0) in
-    let begun : c.if-place-gt0.text.items ≡ t ++ space =
+    let begun : items c.if-place-gt0.text ≡ t ++ space =
     elim c.if-place-gt0.branch [
       | then-place-gt0 w ↦
           let fits = written_fits 1024 t (codes " ") (omega arith) in

@@ -3,6 +3,7 @@ use Rattle.std.specs.List.{position}
 use Rattle.std.proofs.lemmas.Iterator.{YieldsList-from_slice}
 use Rattle.std.proofs.lemmas.Iterator.Search.{position_from_yields_List}
 use Rattle.std.proofs.lemmas.Result.{err_from_is_err_and}
+use Rattle.few.specs.Few.{items}
 use Rattle.opening.specs.Shapes.{factors_of}
 use Rattle.wishes.specs.Lists.{same_wish, without}
 use Rattle.wishes.specs.Standings.{wishes_in}
@@ -15,10 +16,10 @@ place_is c =
     position_from_yields_List (is_it c.args.wish) _ _ c.position-place.result c.position-place.ensures.ran (YieldsList-from_slice (wishes_in c.args.self.now) cc)
     (λ x b q k. search (rules, tests))
 
-left : (c : After-remove) → c.position-place.result ≡ position (is_it c.args.wish) (wishes_in c.args.self.now) → c.remove.new.self.items ≡ without c.args.wish (wishes_in c.args.self.now)
+left : (c : After-remove) → c.position-place.result ≡ position (is_it c.args.wish) (wishes_in c.args.self.now) → items c.remove.new.self ≡ without c.args.wish (wishes_in c.args.self.now)
 left c is =
     struck c.args.wish (wishes_in c.args.self.now) c.position-place.result is c.ok_or.result c.ok_or.ensures.value
-    c.in_ok-index.index c.remove.result c.remove.new.self.items c.in_ok-index.was c.args.self.now.once c.remove.ensures.value c.remove.ensures.some
+    c.in_ok-index.index c.remove.result (items c.remove.new.self) c.in_ok-index.was c.args.self.now.once c.remove.ensures.value c.remove.ensures.some
 
 pub returns-in_err-index-clause-answer : goal.returns-in_err-index-clause-answer
 returns-in_err-index-clause-answer c =

@@ -1,5 +1,6 @@
 use Rattle.std.proofs.Common.{rules, ◌≡◌, length, sym, ap, ◌∙◌, subst, arith}
 use Rattle.std.proofs.lemmas.List.{length_push}
+use Rattle.few.specs.Few.{items}
 use Rattle.theory.specs.Keys.{Words}
 use Rattle.opening.specs.Shapes.{layers_of}
 use Rattle.figures.specs.Rows.{table_of}
@@ -13,7 +14,7 @@ use Rattle.figures.proofs.counts.extension.Extension.counts.Goals as goal
 pub invariant_of-result : goal.invariant_of-result
 invariant_of-result c =
     let e = c.args.self.now in
-    let placed : c.push.new.self.items ≡ all_columns e = search rules in
+    let placed : items c.push.new.self ≡ all_columns e = search rules in
     record {
       few = omega (arith, ap length placed, length_push (columns_in e.counts.now) e.column, room_few e.counts.now e.column e.room);
       words = subst (Words (layers_of e.counts.now.shape)) (sym placed) (words_more e);
