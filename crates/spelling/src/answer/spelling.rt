@@ -10,7 +10,7 @@ use super::{Answer, Effects};
 use few::Few;
 use key::Key;
 use sheet::fault::SheetFault;
-use sheet::letters::{letter, add_letters};
+use sheet::letters::{add_letters, letter};
 use text::{add_bytes, add_number};
 use theory::refusal::Refusal;
 
