@@ -7,12 +7,18 @@ use Rattle.figures.specs.Rows.{table_of}
 use Rattle.figures.specs.Counted.{columns_in}
 use Rattle.figures.specs.Extended.{all_columns}
 use Rattle.figures.proofs.Rooms.{room_few}
-use Rattle.figures.proofs.Rows.{table_is}
+use Rattle.figures.proofs.Rows.{length_table, table_is}
+use Rattle.figures.proofs.Reading.{row_at}
 use Rattle.figures.proofs.Extending.{words_more}
 use Rattle.figures.proofs.counts.extension.Extension.counts.Goals as goal
 
-pub invariant_of-result : goal.invariant_of-result
-invariant_of-result c =
+pub loop-word-init : goal.loop-word-init
+loop-word-init c =
+    let counts = c.args.self.now.counts.now in
+    (ap length counts.counted ∙ length_table (columns_in counts), λ v h. absurd (omega arith), λ v l h. row_at counts v h)
+
+pub invariant_of-counts : goal.invariant_of-counts
+invariant_of-counts c =
     let e = c.args.self.now in
     let placed : items c.push.new.self ≡ all_columns e = search rules in
     record {
