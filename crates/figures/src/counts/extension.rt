@@ -117,16 +117,15 @@ impl<'a> Extension<'a> {
         }
     }
 
-    /// The counts of the columns.
-    pub(super) fn counts(&self) -> Counts
-        ensures shape { result.shape ≡ self.now.counts.now.shape }
-        ensures columns { columns_in result ≡ all_columns self.now }
+    /// Adds the column to a copy of the counts.
+    pub(super) fn add_to(&self, counts: &mut Counts)
+        requires { counts.old ≡ self.now.counts.now }
+        ensures shape { counts.new.shape ≡ self.now.counts.now.shape }
+        ensures columns { columns_in counts.new ≡ all_columns self.now }
     {
-        let mut counts = *self.counts;
         counts.columns.push(self.column).unwrap();
         for (word, row) in counts.table.iter_mut().enumerate() {
             self.extend(word, row);
         }
-        counts
     }
 }

@@ -2,7 +2,7 @@ use Rattle.std.proofs.Common.{◌≡◌, ℕ, ◌<◌, ◌≤◌, [], length, ge
 use Rattle.figures.specs.Rows.{row_of}
 use Rattle.figures.specs.Counted.{columns_in}
 use Rattle.figures.specs.Extended.{all_columns}
-use Rattle.figures.proofs.counts.extension.Extension.counts.Given as goal
+use Rattle.figures.proofs.counts.extension.Extension.add_to.Given as goal
 
 -- the rows so far have the column, the others have not
 abbrev pub invariant-loop-word : goal.invariant-loop-word
