@@ -10,7 +10,7 @@ use Rattle.theory.specs.Tallies.{members, resolution}
 use Rattle.theory.specs.Wishes.{Formed, Meets}
 use Rattle.theory.proofs.Defining.{resolution_fact}
 use Rattle.theory.proofs.Fronts.{front_fact}
-use Rattle.wishes.specs.Tests.{Fails, Passes, MetByNone}
+use Rattle.wishes.specs.Tests.{Fails, Passes, MetByNone, SomeFails, AllMetByNone}
 use Rattle.wishes.proofs.Counting.{clear_met, clear_main, clear_other, least_none, least_met, least_short}
 
 pub when_by : {P Q : Type 0} (b : Bool) → (b ≡ true → P) → (b ≡ false → Q) → MatchBool b P Q
@@ -57,6 +57,11 @@ module _ (ws cs : List ℕ) (wish : Wish) (formed : Formed (length cs) wish) whe
       go (Some j) law t = rw (told j t) (when_by (ltb j r) (λ t. least_short ws cs r j law (ltb-true j r t)) (λ t. least_met ws cs r j law (ltb-false j r t)))
 
 -- ---- a list of wishes
+
+-- no key that begins with columns that fail a wish of the list meets them all
+pub some_fails_for_all : (ws cs : List ℕ) (wishes : List Wish) → SomeFails ws cs wishes → AllMetByNone ws cs wishes
+some_fails_for_all ws cs wishes (k, wish, h, at, fails) ds begins met =
+    fails_for_all ws cs wish fails ds begins (subst (Meets ws ds) at (met k wish h))
 
 -- where no wish of a whole key's factors fails, the key meets all of them
 pub none_fails_met : (ws cs : List ℕ) (wishes : List Wish) → All (Formed (length cs)) wishes → All (Passes ws cs) wishes → All (Meets ws cs) wishes

@@ -11,8 +11,8 @@ use Rattle.std.proofs.lemmas.Bool.Decides.{Decides-by_or, Decides-by_and}
 use Rattle.std.proofs.lemmas.List.Elements.{All-filter}
 use Rattle.std.proofs.lemmas.List.Folds.{list_any-append, list_all-append}
 use Rattle.few.specs.Few.{items}
+use Rattle.few.specs.declared.Few.{Few}
 use Rattle.few.specs.declared.Full.{Full}
-use Rattle.few.specs.Few.{Few}
 use Rattle.theory.specs.declared.wish.Wish.{Wish}
 use Rattle.theory.specs.declared.wish.Wish.TheVariants.{Clear, Apart, Fine, Word, Least}
 use Rattle.theory.specs.Wishes.{Formed, formed}
@@ -80,7 +80,7 @@ distinct_push (x ∷ xs) wish once f =
     and_from (not (stands (xs ++ wish ∷ []) x)) (distinct (xs ++ wish ∷ [])) (not_from_false (stands (xs ++ wish ∷ []) x) still) (distinct_push xs wish parts.1 none.1)
 
 -- what stands once it was added, or refused for want of room
-pub one_more : (n : ℕ) (wish : Wish) (old new : Few Wish) (r : Result Unit Full) → OnOk r (items new ≡ items old ++ wish ∷ []) → OnErr r (new ≡ old)
+pub one_more : {room : ℕ} (n : ℕ) (wish : Wish) (old new : Few Wish room) (r : Result Unit Full) → OnOk r (items new ≡ items old ++ wish ∷ []) → OnErr r (new ≡ old)
     → all_formed n (items old) ≡ true → distinct (items old) ≡ true → formed n wish ≡ true → stands (items old) wish ≡ false → (all_formed n (items new) ≡ true) × (distinct (items new) ≡ true)
 one_more n wish old new (Ok _) more same all once of none = rw more (formed_push n (items old) wish all of, distinct_push (items old) wish once none)
 one_more n wish old new (Err _) more same all once of none = rw same (all, once)

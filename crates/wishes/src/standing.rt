@@ -1,6 +1,6 @@
 //! The wishes that stand.
 
-ghost use Rattle.std.specs.Prelude.{◌≡◌, true};
+ghost use Rattle.std.specs.Prelude.{◌≡◌, ◌≤◌, true, length};
 ghost use Rattle.few.specs.Few.{items};
 ghost use Rattle.opening.specs.Shapes.{factors_of};
 ghost use Rattle.wishes.specs.Lists.{all_formed, distinct};

@@ -1,4 +1,4 @@
-use Rattle.std.proofs.Common.{◌≡◌, not, refl, rules, tests}
+use Rattle.std.proofs.Common.{◌≡◌, not, refl, arith, rules, tests}
 use Rattle.std.specs.List.{position}
 use Rattle.std.proofs.lemmas.Iterator.{YieldsList-from_slice}
 use Rattle.std.proofs.lemmas.Iterator.Search.{position_from_yields_List}
@@ -8,6 +8,7 @@ use Rattle.opening.specs.Shapes.{factors_of}
 use Rattle.wishes.specs.Lists.{same_wish, without}
 use Rattle.wishes.specs.Standings.{wishes_in}
 use Rattle.wishes.proofs.Listed.{is_it, formed_kept, distinct_kept, refused, struck}
+use Rattle.wishes.proofs.Places.{length_items}
 use Rattle.wishes.proofs.standing.Standing.strike.Goals as goal
 use Rattle.wishes.proofs.standing.Standing.strike.Goals.{After-position-place, After-remove}
 
@@ -33,7 +34,9 @@ invariant_of-self c =
     let old = c.args.self.now in
     let at = goal.at.invariant_of-self c in
     let is = left at.After-remove (place_is at.After-position-place) in
+    let wishes = c.remove.new.self in
     record {
+      few = omega (arith, length_items wishes, wishes.few);
       formed = rw is (formed_kept (λ x. not (same_wish x c.args.wish)) (factors_of old.shape) (wishes_in old) old.formed);
       once = rw is (distinct_kept (λ x. not (same_wish x c.args.wish)) (wishes_in old) old.once);
     }
