@@ -1,5 +1,5 @@
 -- Counts with one column more: the numbers, and sums over words.
-use Rattle.std.proofs.Common.{◌≡◌, ℕ, zero, suc, ◌+◌, ◌-◌, ◌*◌, ◌^◌, ◌<◌, ◌≤◌, ◌≢◌, Bool, true, false, cond, eqb, List, sym, ap, ◌∙◌, mul-le-mul, add-one, arith}
+use Rattle.std.proofs.Common.{◌≡◌, ℕ, zero, suc, ◌+◌, ◌-◌, ◌*◌, ◌^◌, ◌<◌, ◌≤◌, ◌≢◌, Bool, true, false, cond, eqb, List, [], length, get_or, set, sym, ap, ◌∙◌, ap₂, mul-le-mul, add-one, arith, length-set, get_or-set_other, get_or-set_same, below_more}
 use lib.Bits.{bit_xor, xor_lt}
 use Rattle.std.proofs.lemmas.List.{length_push}
 use Rattle.std.proofs.lemmas.Bool.{eq-eqb, ne_eqb}
@@ -11,8 +11,11 @@ use Rattle.theory.proofs.Tables.{members_push, members_push_0, pairs_le}
 use Rattle.opening.specs.Shapes.{layers_of, units_of}
 use Rattle.figures.specs.Counted.{columns_in, unmixed, unmixed_square}
 use Rattle.figures.specs.Extended.{all_columns}
+use Rattle.figures.specs.Rows.{row_of}
 use Rattle.figures.specs.declared.counts.extension.Extension.{Extension}
 use Rattle.figures.proofs.Rooms.{room_few, room_word, word_small}
+use Rattle.figures.proofs.Rows.{at_row, length_row, row_is}
+use Rattle.figures.proofs.Reading.{count_at, members_small}
 
 -- ---- one word more, of a chain with no main effect or with one
 unmixed_yes : (cs : List ℕ) (v p : ℕ) → members cs 1 v ≡ 0 → p ≡ members cs 2 v → (unmixed cs v ≡ p) × (unmixed_square cs v ≡ p * p)
@@ -47,6 +50,51 @@ module _ (e : Extension) where
 
   pub members_mean : (v : ℕ) → members (columns_in e.counts.now) 0 v ≡ members more 0 v
   members_mean v = sym (members_push_0 (columns_in e.counts.now) e.column v)
+
+  -- ---- a row of the counts, one length after another
+
+  -- below `end` it has the effects with the new factor, from there on it has not
+  abbrev pub Extended : ℕ → ℕ → List ℕ → Type 0
+  Extended word end row =
+      (length row ≡ 11)
+      × ((j : ℕ) → j < end → get_or row j 0 ≡ members more j word)
+      × ((j : ℕ) → end ≤ j → j < 11 → get_or row j 0 ≡ members (columns_in e.counts.now) j word)
+
+  -- no effect with the new factor has length 0
+  pub extended_from : (word : ℕ) (row : List ℕ) → row ≡ row_of (columns_in e.counts.now) word → Extended word 1 row
+  extended_from word row is = (ap length is ∙ length_row (columns_in e.counts.now) word, λ j h. first j (omega arith), λ j l h. old j h)
+    where
+      old : (j : ℕ) → j < 11 → get_or row j 0 ≡ members (columns_in e.counts.now) j word
+      old j h = ap (λ (xs : List ℕ). get_or xs j 0) is ∙ at_row (columns_in e.counts.now) word j h
+
+      first : (j : ℕ) → j ≡ 0 → get_or row j 0 ≡ members more j word
+      first j z = old j (omega arith) ∙ ap (λ (i : ℕ). members (columns_in e.counts.now) i word) z ∙ members_mean word ∙ ap (λ (i : ℕ). members more i word) (sym z)
+
+  module _ (word end : ℕ) (row : List ℕ) (w : word < 32) (l : 1 ≤ end) (h : end < 11) (so : Extended word end row) where
+    -- the effects that are one shorter, to which the new factor is added
+    abbrev pub shorter : ℕ
+    shorter = get_or (get_or e.counts.now.table (bit_xor word e.column) []) (end - 1) 0
+
+    shorter_is : shorter ≡ members (columns_in e.counts.now) (end - 1) (bit_xor word e.column)
+    shorter_is = count_at e.counts.now (bit_xor word e.column) (end - 1) (other_word word w) (omega arith)
+
+    pub extended_small : get_or row end 0 + shorter ≤ 2048
+    extended_small =
+        let longer : get_or row end 0 ≡ members (columns_in e.counts.now) end word = so.2 end (omega arith) h in
+        omega (arith, longer, shorter_is, members_small e.counts.now end word, members_small e.counts.now (end - 1) (bit_xor word e.column))
+
+    pub extended_more : Extended word (end + 1) (set row end (get_or row end 0 + shorter))
+    extended_more = (
+      simp length-set so.0,
+      below_more _ _ (λ j k. let ne : j ≢ end = omega arith in rw get_or-set_other (so.1 j k)) (let lt : end < length row = omega arith in rw get_or-set_same sum),
+      λ j k m. let ne : j ≢ end = omega arith in rw get_or-set_other (so.2 j (omega arith) m),
+    )
+      where
+        sum : get_or row end 0 + shorter ≡ members more end word
+        sum = ap₂ (λ (x y : ℕ). x + y) (so.2 end (omega arith) h) shorter_is ∙ members_more end word (omega arith)
+
+  pub extended_to : (word : ℕ) (row : List ℕ) → Extended word 11 row → row ≡ row_of more word
+  extended_to word row so = row_is row more word so.0 so.1
 
   pub words_more : Words (layers_of e.counts.now.shape) more
   words_more = words_push (layers_of e.counts.now.shape) (columns_in e.counts.now) e.column e.counts.now.words (room_word e.counts.now e.column e.room)

@@ -9,6 +9,7 @@ use Rattle.theory.proofs.Sounds.{alias_word}
 use Rattle.theory.proofs.Tables.{members_le}
 use Rattle.opening.specs.Shapes.{layers_of}
 use Rattle.figures.specs.Counted.{columns_in}
+use Rattle.figures.specs.Rows.{row_of}
 use Rattle.figures.specs.declared.counts.Counts.{Counts}
 use Rattle.figures.proofs.Rooms.{word_small}
 use Rattle.figures.proofs.Rows.{at_row, at_table}
@@ -17,10 +18,11 @@ module _ (counts : Counts) where
   abbrev cs : List ℕ
   cs = columns_in counts
 
+  pub row_at : (v : ℕ) → v < 32 → get_or counts.table v [] ≡ row_of cs v
+  row_at v h = ap (λ (rows : List (List ℕ)). get_or rows v []) counts.counted ∙ at_table cs v h
+
   pub count_at : (v j : ℕ) → v < 32 → j < 11 → get_or (get_or counts.table v []) j 0 ≡ members cs j v
-  count_at v j h k =
-      ap (λ (rows : List (List ℕ)). get_or (get_or rows v []) j 0) counts.counted
-      ∙ ap (λ (row : List ℕ). get_or row j 0) (at_table cs v h) ∙ at_row cs v j k
+  count_at v j h k = ap (λ (row : List ℕ). get_or row j 0) (row_at v h) ∙ at_row cs v j k
 
   pub members_small : (j v : ℕ) → members cs j v ≤ 1024
   members_small j v = omega (arith, members_le cs j v, pow_mono {i = length cs} {j = 10} (omega (arith, counts.few)))

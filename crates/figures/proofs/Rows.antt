@@ -26,6 +26,10 @@ pub mean_table : set (replicate 32 (replicate 11 0)) 0 (set (replicate 11 0) 0 1
 unfolding table_of row_of ones
 mean_table = refl
 
+pub row_is : (row cs : List ℕ) (v : ℕ) → length row ≡ 11 → ((j : ℕ) → j < 11 → get_or row j 0 ≡ members cs j v) → row ≡ row_of cs v
+unfolding row_of
+row_is row cs v long at = fill_by_all (λ j. members cs j v) row 11 0 long at
+
 pub table_is : (rows : List (List ℕ)) (cs : List ℕ) → length rows ≡ 32 → ((v : ℕ) → v < 32 → get_or rows v [] ≡ row_of cs v) → rows ≡ table_of cs
 unfolding table_of
 table_is rows cs long at = fill_by_all (row_of cs) rows 32 [] long at

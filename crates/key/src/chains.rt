@@ -33,6 +33,9 @@ impl Key {
         ensures buffer { out.new ≡ filled result (chain (columns_of self.now) effect) out.old }
     {
         let word = self.known_word(effect)?;
+        if out.len() < self.shape.chain_size() {
+            return Err(Refusal::ShortBuffer);
+        }
         fill(out, self.members(word).as_slice())
     }
 }

@@ -12,7 +12,7 @@ use super::asking::sign_of;
 use super::filling::fill;
 use few::Few;
 use opening::Shape;
-use text::{put_bytes, put_number};
+use text::{add_bytes, add_number};
 use theory::refusal::Refusal;
 use theory::sign::Sign;
 
@@ -38,10 +38,10 @@ fn put_place(text: &mut Text, plot: u8, subplot: u8)
     requires room { length (items text.old) + 6 ≤ LONGEST }
     ensures { items text.new ≡ items text.old ++ place_text plot subplot }
 {
-    put_number(text, usize::from(plot) + 1);
-    put_bytes(text, b" ");
-    put_number(text, usize::from(subplot) + 1);
-    put_bytes(text, b" ");
+    add_number(text, usize::from(plot) + 1);
+    add_bytes(text, b" ");
+    add_number(text, usize::from(subplot) + 1);
+    add_bytes(text, b" ");
 }
 
 /// The run of a subplot.
@@ -61,7 +61,7 @@ impl Key {
         ensures { items text.new ≡ items text.old ++ signs_of self.now run }
     {
         for column in self.columns() {
-            put_bytes(text, &[mark(sign_of(*column, run))]);
+            text.push(mark(sign_of(*column, run))).unwrap();
         }
     }
 
@@ -74,7 +74,7 @@ impl Key {
     {
         put_place(text, plot, subplot);
         self.put_signs(text, run_in(self.shape, plot, subplot));
-        put_bytes(text, b"\n");
+        add_bytes(text, b"\n");
     }
 
     /// Adds the rows of a whole plot.

@@ -1,11 +1,11 @@
 //! Letters of factors, and letter groups of effects.
 ghost use Rattle.std.specs.Prelude.{◌≡◌};
 ghost use Rattle.few.specs.Few.{items};
-ghost use Rattle.text.specs.Texts.{written};
+ghost use Rattle.text.specs.Texts.{written, ended, added};
 ghost use Rattle.sheet.specs.Letters.{factor, effect_of, letter_of, letters_of, LettersStand};
 
 use few::Few;
-use text::put_bytes;
+use text::{add_bytes, put_bytes};
 
 /// A letter group that was printed is read back as the same effect.
 pub fn letters_stand()
@@ -71,20 +71,37 @@ pub fn letter(n1: u8, factor: u8) -> u8
     }
 }
 
-/// Adds the letters of an effect's factors to a text, `0` for the mean; where they do not fit, it
-/// changes nothing. Of the numbers of factors `n1` alone tells letters apart.
-pub fn put_letters<const CAP: usize>(text: &mut Few<u8, CAP>, n1: u8, effect: u16)
-    ensures { items text.new ≡ written CAP (items text.old) (letters_of n1 effect) }
+// The letters of an effect's factors, `0` for the mean.
+fn letters(n1: u8, effect: u16) -> Few<u8, 16>
+    ensures { items result ≡ letters_of n1 effect }
 {
+    let mut group = Few::new(b' ');
     if effect == 0 {
-        return put_bytes(text, b"0");
+        let _ = group.push(b'0');
+        return group;
     }
-    let mut group = Few::<u8, 16>::new(b' ');
     // The factors are the numbers themselves, in no list that could be gone through.
     for factor in 0..16 {
         if (effect >> factor) % 2 == 1 {
             let _ = group.push(letter(n1, factor));
         }
     }
-    put_bytes(text, group.as_slice());
+    group
+}
+
+/// Writes the letters of an effect's factors into `out` from `at` on, `0` for the mean, and tells where they end.
+/// Where they do not fit, it changes nothing and tells `at`. Of the numbers of factors `n1` alone tells letters apart.
+pub fn put_letters(out: &mut [u8], at: usize, n1: u8, effect: u16) -> usize
+    ensures value { result ≡ ended out.old at (letters_of n1 effect) }
+    ensures after { out.new ≡ written out.old at (letters_of n1 effect) }
+{
+    put_bytes(out, at, letters(n1, effect).as_slice())
+}
+
+/// Adds the letters of an effect's factors to a text, `0` for the mean; where they do not fit, it
+/// changes nothing.
+pub fn add_letters<const CAP: usize>(text: &mut Few<u8, CAP>, n1: u8, effect: u16)
+    ensures { items text.new ≡ added CAP (items text.old) (letters_of n1 effect) }
+{
+    add_bytes(text, letters(n1, effect).as_slice());
 }

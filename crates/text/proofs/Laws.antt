@@ -1,14 +1,14 @@
--- What `written` says where there is room, and texts for each number. Assumes nothing.
+-- What `added` says where there is room, and texts for each number. Assumes nothing.
 use Rattle.std.proofs.Common.{◌≡◌, ℕ, zero, suc, ◌+◌, ◌*◌, ◌<◌, ◌≤◌, List, [], ◌∷◌, ◌++◌, fold, length, sym, ap, ◌∙◌, subst, map-id, add-one, append_assoc, append-nil, arith, length-append, le-leb}
 use Rattle.std.specs.List.{range_with_len, flat_map}
 use Rattle.std.proofs.lemmas.List.{flat_map_more}
 use Rattle.std.proofs.lemmas.List.FromFn.{map-range_with_len_more}
-use Rattle.text.specs.Texts.{written}
+use Rattle.text.specs.Texts.{added}
 
 -- what fits is added
-pub written_fits : (room : ℕ) (t s : List ℕ) → length t + length s ≤ room → written room t s ≡ t ++ s
-unfolding written
-written_fits room t s h = rw (le-leb (length t + length s) room h)
+pub added_fits : (room : ℕ) (t s : List ℕ) → length t + length s ≤ room → added room t s ≡ t ++ s
+unfolding added
+added_fits room t s h = rw (le-leb (length t + length s) room h)
 
 -- ---- pieces, one after another
 
@@ -21,15 +21,15 @@ abbrev pub total : List (List ℕ) → ℕ
 total [] = 0
 total (p ∷ ps) = length p + total ps
 
-written_after : (room : ℕ) (t s : List ℕ) (ps : List (List ℕ)) → length t + length s + total ps ≤ room → fold (written room) (t ++ s) ps ≡ t ++ joined s ps
-written_after room t s [] h = λ _. t ++ s
-written_after room t s (p ∷ ps) h =
+added_after : (room : ℕ) (t s : List ℕ) (ps : List (List ℕ)) → length t + length s + total ps ≤ room → fold (added room) (t ++ s) ps ≡ t ++ joined s ps
+added_after room t s [] h = λ _. t ++ s
+added_after room t s (p ∷ ps) h =
     let long = length-append t s in
-    ap (λ x. fold (written room) x ps) (written_fits room (t ++ s) p (omega arith) ∙ append_assoc t s p) ∙ written_after room t (s ++ p) ps (omega (arith, length-append s p))
+    ap (λ x. fold (added room) x ps) (added_fits room (t ++ s) p (omega arith) ∙ append_assoc t s p) ∙ added_after room t (s ++ p) ps (omega (arith, length-append s p))
 
 -- pieces that fit together are added one after another
-pub written_all : (room : ℕ) (t : List ℕ) (ps : List (List ℕ)) → length t + total ps ≤ room → fold (written room) t ps ≡ t ++ joined [] ps
-written_all room t ps h = ap (λ x. fold (written room) x ps) (sym (append-nil t)) ∙ written_after room t [] ps (omega arith)
+pub added_all : (room : ℕ) (t : List ℕ) (ps : List (List ℕ)) → length t + total ps ≤ room → fold (added room) t ps ≡ t ++ joined [] ps
+added_all room t ps h = ap (λ x. fold (added room) x ps) (sym (append-nil t)) ∙ added_after room t [] ps (omega arith)
 
 -- ---- a text for each number
 

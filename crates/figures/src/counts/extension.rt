@@ -4,7 +4,6 @@ ghost use Rattle.std.specs.Prelude.{◌≡◌, ◌+◌, ◌^◌, ◌<◌, ◌≤
 ghost use Rattle.figures.specs.Counted.{columns_in, room_for};
 
 use super::Counts;
-use std::array::from_fn;
 use std::ops::Range;
 use theory::tally::Tally;
 
@@ -51,12 +50,26 @@ impl<'a> Extension<'a> {
         without + self.counts.at(word ^ usize::from(self.column), length - 1)
     }
 
+    /// Adds to a row of the counts, which has the effects without the new factor, those with it.
+    fn extend(&self, word: usize, row: &mut [u16; 11])
+        requires word { word < 32 }
+        requires without { row.old ≡ row_of (columns_in self.now.counts.now) word }
+        ensures { row.new ≡ row_of (all_columns self.now) word }
+    {
+        let other = &self.counts.table[word ^ usize::from(self.column)];
+        for length in 1..11 {
+            row[length] += other[length - 1];
+        }
+    }
+
     /// How many effects of each length have this word as their alias.
     fn row(&self, word: usize) -> [u16; 11]
         requires { word < 32 }
         ensures { result ≡ row_of (all_columns self.now) word }
     {
-        from_fn(|length| self.at(word, length))
+        let mut row = self.counts.table[word];
+        self.extend(word, &mut row);
+        row
     }
 
     /// Over the words whose chain holds no main effect: how many interactions the chains hold, and the
@@ -104,21 +117,15 @@ impl<'a> Extension<'a> {
         }
     }
 
-    /// The counts of the columns.
-    pub(super) fn counts(&self) -> Counts
-        ensures shape { result.shape ≡ self.now.counts.now.shape }
-        ensures columns { columns_in result ≡ all_columns self.now }
+    /// Adds the column to a copy of the counts.
+    pub(super) fn add_to(&self, counts: &mut Counts)
+        requires { counts.old ≡ self.now.counts.now }
+        ensures shape { counts.new.shape ≡ self.now.counts.now.shape }
+        ensures columns { columns_in counts.new ≡ all_columns self.now }
     {
-        let mut columns = self.counts.columns;
-        columns.push(self.column).unwrap();
-        let mut table = [[0; 11]; 32];
-        for (word, row) in table.iter_mut().enumerate() {
-            *row = self.row(word);
-        }
-        Counts {
-            shape: self.counts.shape,
-            columns,
-            table,
+        counts.columns.push(self.column).unwrap();
+        for (word, row) in counts.table.iter_mut().enumerate() {
+            self.extend(word, row);
         }
     }
 }

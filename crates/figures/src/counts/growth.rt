@@ -35,6 +35,10 @@ impl Counts {
         ensures shape { result.shape ≡ self.now.shape }
         ensures columns { columns_in result ≡ (if room_for self.now column then columns_in self.now ++ column ∷ [] else columns_in self.now) }
     {
-        Extension::new(self, column).map_or(*self, |extension| extension.counts())
+        let mut counts = *self;
+        if let Some(extension) = Extension::new(self, column) {
+            extension.add_to(&mut counts);
+        }
+        counts
     }
 }

@@ -10,8 +10,8 @@ use super::{Answer, Effects};
 use few::Few;
 use key::Key;
 use sheet::fault::SheetFault;
-use sheet::letters::{letter, put_letters};
-use text::{put_bytes, put_number};
+use sheet::letters::{add_letters, letter};
+use text::{add_bytes, add_number};
 use theory::refusal::Refusal;
 
 /// Room for the text of any answer.
@@ -26,9 +26,9 @@ fn put_column(text: &mut Text, n1: u8, factor: u8, column: u8)
     requires { length (items text.old) + 6 ≤ ROOM }
     ensures { items text.new ≡ items text.old ++ column_text n1 factor column }
 {
-    put_bytes(text, b" ");
-    put_bytes(text, &[letter(n1, factor), b'=']);
-    put_number(text, usize::from(column));
+    add_bytes(text, b" ");
+    add_bytes(text, &[letter(n1, factor), b'=']);
+    add_number(text, usize::from(column));
 }
 
 /// Adds the letter and the column of each factor.
@@ -47,9 +47,9 @@ fn plan(key: &Key) -> Text
     ensures { items result ≡ plan_text key.now.shape.n1 (columns_of key.now) }
 {
     let mut text = Few::new(0);
-    put_bytes(&mut text, b"key");
+    add_bytes(&mut text, b"key");
     put_columns(&mut text, key.shape().n1, key.columns());
-    put_bytes(&mut text, b"\n");
+    add_bytes(&mut text, b"\n");
     text
 }
 
@@ -58,7 +58,7 @@ fn rows(key: &Key) -> Text
     ensures { items result ≡ layout_of key.now }
 {
     let mut text = Few::new(0);
-    put_bytes(&mut text, key.rows().as_slice());
+    add_bytes(&mut text, key.rows().as_slice());
     text
 }
 
@@ -68,9 +68,9 @@ fn put_effect(text: &mut Text, n1: u8, place: usize, effect: u16)
     ensures { items text.new ≡ items text.old ++ effect_text n1 place effect }
 {
     if place > 0 {
-        put_bytes(text, b" ");
+        add_bytes(text, b" ");
     }
-    put_letters(text, n1, effect);
+    add_letters(text, n1, effect);
 }
 
 /// Effects as letters, with spaces between them.
@@ -81,7 +81,7 @@ fn chain(effects: &Effects) -> Text
     for (place, effect) in effects.list.as_slice().iter().enumerate() {
         put_effect(&mut text, effects.n1, place, *effect);
     }
-    put_bytes(&mut text, b"\n");
+    add_bytes(&mut text, b"\n");
     text
 }
 
@@ -90,11 +90,11 @@ fn refused(refusal: Refusal, line: usize) -> Text
     ensures { items result ≡ refused_text refusal line }
 {
     let mut text = Few::new(0);
-    put_bytes(&mut text, b"no ");
-    put_number(&mut text, usize::from(refusal.number()));
-    put_bytes(&mut text, b" line ");
-    put_number(&mut text, line);
-    put_bytes(&mut text, b"\n");
+    add_bytes(&mut text, b"no ");
+    add_number(&mut text, usize::from(refusal.number()));
+    add_bytes(&mut text, b" line ");
+    add_number(&mut text, line);
+    add_bytes(&mut text, b"\n");
     text
 }
 
@@ -104,13 +104,13 @@ fn at_fault(fault: SheetFault) -> Text
 {
     let place = fault.place();
     let mut text = Few::new(0);
-    put_bytes(&mut text, b"bad ");
-    put_number(&mut text, usize::from(fault.number()));
-    put_bytes(&mut text, b" line ");
-    put_number(&mut text, place.line);
-    put_bytes(&mut text, b" column ");
-    put_number(&mut text, place.column);
-    put_bytes(&mut text, b"\n");
+    add_bytes(&mut text, b"bad ");
+    add_number(&mut text, usize::from(fault.number()));
+    add_bytes(&mut text, b" line ");
+    add_number(&mut text, place.line);
+    add_bytes(&mut text, b" column ");
+    add_number(&mut text, place.column);
+    add_bytes(&mut text, b"\n");
     text
 }
 

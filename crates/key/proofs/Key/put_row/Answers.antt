@@ -3,7 +3,7 @@ use Rattle.few.specs.Few.{items}
 use Rattle.theory.specs.Signs.{run_number}
 use Rattle.key.specs.Layouts.{place_text}
 use Rattle.key.specs.Questions.{signs_of}
-use Rattle.text.proofs.Laws.{written_fits}
+use Rattle.text.proofs.Laws.{added_fits}
 use Rattle.key.proofs.Rows.{few_plots, two_digits, row_le}
 use Rattle.key.proofs.Key.put_row.Goals as goal
 
@@ -25,11 +25,11 @@ returns c =
     let place = place_text c.args.plot c.args.subplot in
     let signs = signs_of key (run_number (key.shape.w ∷ []) c.args.plot c.args.subplot) in
     rw (
-      c.put_bytes.ensures,
+      c.add_bytes.ensures,
       c.put_signs.ensures,
       c.put_place.ensures,
       c.run_in.ensures,
       append_assoc t place signs,
-      written_fits 544 (t ++ (place ++ signs)) (codes "\n") (omega (arith, length-append {A = ℕ})),
+      added_fits 544 (t ++ (place ++ signs)) (codes "\n") (omega (arith, length-append {A = ℕ})),
     )
     (append_assoc t (place ++ signs) (codes "\n"))

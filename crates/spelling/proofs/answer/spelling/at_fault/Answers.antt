@@ -1,5 +1,5 @@
 use Rattle.std.proofs.Common.{[], ◌∷◌, codes, decimal, arith}
-use Rattle.text.proofs.Laws.{written_all}
+use Rattle.text.proofs.Laws.{added_all}
 use Rattle.spelling.proofs.Lengths.{twenty_digits}
 use Rattle.spelling.proofs.answer.spelling.at_fault.Goals as goal
 
@@ -9,5 +9,5 @@ returns c =
     let number = twenty_digits c.from.result (omega arith) in
     let line = twenty_digits place.line (omega arith) in
     let column = twenty_digits place.column (omega arith) in
-    let all = written_all 1024 [] (codes "bad " ∷ decimal c.from.result ∷ codes " line " ∷ decimal place.line ∷ codes " column " ∷ decimal place.column ∷ codes "\n" ∷ []) (omega arith) in
+    let all = added_all 1024 [] (codes "bad " ∷ decimal c.from.result ∷ codes " line " ∷ decimal place.line ∷ codes " column " ∷ decimal place.column ∷ codes "\n" ∷ []) (omega arith) in
     cc

@@ -1,7 +1,7 @@
 use Rattle.std.proofs.Common.{◌≡◌, ℕ, List, [], ◌++◌, length, get_or, codes, ap, ◌∙◌, arith}
 use Rattle.std.specs.List.{range_with_len, flat_map}
 use Rattle.few.specs.Few.{items}
-use Rattle.text.proofs.Laws.{written_fits, texts_more, length_texts}
+use Rattle.text.proofs.Laws.{added_fits, texts_more, length_texts}
 use Rattle.spelling.specs.Spelled.{effect_text}
 use Rattle.spelling.proofs.Lengths.{effect_le}
 use Rattle.spelling.proofs.answer.spelling.chain.Goals as goal
@@ -30,5 +30,5 @@ returns c =
     let short = length_texts f 17 n (λ i l. effect_le n1 i (get_or es i 0)) in
     let all : n ≡ length es = omega (arith, ap length c.as_slice-effect-items.ensures.value) in
     let end = c.loop-place.invariant ∙ ap (λ (m : ℕ). flat_map f (range_with_len 0 m)) all in
-    let fits = written_fits 1024 (items c.loop-place.text) (codes "\n") (omega (arith, ap length c.loop-place.invariant, c.as_slice-effect-items.ensures.fits)) in
-    c.put_bytes.ensures ∙ fits ∙ ap (λ (t : List ℕ). t ++ codes "\n") end
+    let fits = added_fits 1024 (items c.loop-place.text) (codes "\n") (omega (arith, ap length c.loop-place.invariant, c.as_slice-effect-items.ensures.fits)) in
+    c.add_bytes.ensures ∙ fits ∙ ap (λ (t : List ℕ). t ++ codes "\n") end

@@ -1,8 +1,8 @@
 use Rattle.std.proofs.Common.{[], arith}
-use Rattle.text.proofs.Laws.{written_fits}
+use Rattle.text.proofs.Laws.{added_fits}
 use Rattle.spelling.proofs.answer.spelling.rows.Goals as goal
 
 pub returns : goal.returns
 returns c =
-    let fits = written_fits 1024 [] c.as_slice.result.now (omega arith) in
+    let fits = added_fits 1024 [] c.as_slice.result.now (omega arith) in
     cc

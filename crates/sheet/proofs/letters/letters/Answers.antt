@@ -1,12 +1,11 @@
-use Rattle.std.proofs.Common.{◌≡◌, [], ◌∷◌, ◌++◌, ap, ◌∙◌, rules}
+use Rattle.std.proofs.Common.{◌≡◌, [], ◌∷◌, ◌++◌, ap, rules}
 use Rattle.few.specs.Few.{items}
-use Rattle.text.specs.Texts.{written}
 use Rattle.sheet.proofs.Spell.{turn_yes, turn_no, spelled}
-use Rattle.sheet.proofs.letters.put_letters.Goals as goal
-use Rattle.sheet.proofs.letters.put_letters.Goals.{then-effect-factor-eq1, else-effect-factor-eq1}
+use Rattle.sheet.proofs.letters.letters.Goals as goal
+use Rattle.sheet.proofs.letters.letters.Goals.{then-effect-factor-eq1, else-effect-factor-eq1}
 
 pub loop-factor-preserved : goal.loop-factor-preserved
-loop-factor-preserved g c =
+loop-factor-preserved c =
     elim c.if-effect-factor-eq1.branch [
       | then-effect-factor-eq1 w ↦
           let grown : items c.if-effect-factor-eq1.group ≡ items c.loop-factor.group ++ w.letter.result ∷ [] = search rules in
@@ -15,6 +14,4 @@ loop-factor-preserved g c =
     ]
 
 pub returns : goal.returns
-returns g c =
-    let whole = spelled c.args.n1 c.args.effect c.loop-factor.factor (items c.loop-factor.group) c.if-effect-eq0.false c.loop-factor-test.false c.loop-factor.invariant.0 in
-    c.put_bytes-2.ensures ∙ ap (written g.row.CAP (items c.args.text.now)) (c.as_slice.ensures.value ∙ whole)
+returns c = spelled c.args.n1 c.args.effect c.loop-factor.factor (items c.loop-factor.group) c.if-effect-eq0.false c.loop-factor-test.false c.loop-factor.invariant.0
