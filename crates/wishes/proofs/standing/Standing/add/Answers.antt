@@ -5,6 +5,10 @@ use Rattle.wishes.proofs.Listed.{one_more}
 use Rattle.wishes.proofs.Places.{length_items, changed}
 use Rattle.wishes.proofs.standing.Standing.add.Goals as goal
 
+pub returns-clause-after : goal.returns-clause-after
+returns-clause-after c =
+    let pushed = c.push.ensures in changed c.args.self.now _ _ c.push.result c.map_err.result refl pushed.ok pushed.err c.map_err.ensures.variant
+
 pub invariant_of-self : goal.invariant_of-self
 invariant_of-self c =
     let old = c.args.self.now in
@@ -13,7 +17,3 @@ invariant_of-self c =
     let more = one_more n c.args.wish old.wishes c.push.new.self c.push.result c.push.ensures.ok c.push.ensures.err old.formed old.once of (sym c.if-holds.ensures) in
     let wishes = c.push.new.self in
     record { few = omega (arith, length_items wishes, wishes.few); formed = more.0; once = more.1 }
-
-pub returns-clause-after : goal.returns-clause-after
-returns-clause-after c =
-    let pushed = c.push.ensures in changed c.args.self.now _ _ c.push.result c.map_err.result refl pushed.ok pushed.err c.map_err.ensures.variant

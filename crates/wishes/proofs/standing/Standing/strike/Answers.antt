@@ -29,6 +29,9 @@ returns-in_err-index-clause-answer c =
     rw (r.1, r.2)
     (refused c.args.wish (wishes_in c.args.self.now) c.position-place.result is c.ok_or.result c.ok_or.ensures.value c.in_err-index.field-0.0 c.in_err-index.was)
 
+pub returns-clause-after : goal.returns-clause-after
+returns-clause-after c = let at = goal.at.returns-clause-after c in (refl, left at.After-remove (place_is at.After-position-place))
+
 pub invariant_of-self : goal.invariant_of-self
 invariant_of-self c =
     let old = c.args.self.now in
@@ -40,6 +43,3 @@ invariant_of-self c =
       formed = rw is (formed_kept (λ x. not (same_wish x c.args.wish)) (factors_of old.shape) (wishes_in old) old.formed);
       once = rw is (distinct_kept (λ x. not (same_wish x c.args.wish)) (wishes_in old) old.once);
     }
-
-pub returns-clause-after : goal.returns-clause-after
-returns-clause-after c = let at = goal.at.returns-clause-after c in (refl, left at.After-remove (place_is at.After-position-place))
