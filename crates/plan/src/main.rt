@@ -26,8 +26,11 @@ fn read_sheet(rt: &HostRuntime, sheet: &mut [u8]) -> io::Result<usize>
 /// Answers a sheet line by line.
 fn answer_sheet(rt: &impl Print, sheet: &[u8]) -> io::Result<()> {
     let mut output = io::writer(rt);
+    let mut buffer = [0; 1024];
     for answer in Session::new(sheet) {
-        output.write_all(answer.text().as_slice())?;
+        if let Ok(size) = answer.put(&mut buffer) {
+            output.write_all(&buffer[..size])?;
+        }
     }
     Ok(())
 }
