@@ -1,16 +1,8 @@
 -- What the tests of one column say.
-use Rattle.std.proofs.Common.{◌≡◌, ℕ, ◌+◌, ◌/◌, ◌%◌, ◌^◌, ◌<◌, ◌≤◌, Bool, true, false, not, ◌&&◌, cond, eqb, ltb, ◌≢◌, ◌⊎◌, List, length, get_or, Some, None, Option, sym, refl, ap, ap₂, ◌∙◌, subst, inl, inr, arith, pow_pos, ltb-true, le-ltb, lt-ltb, eq-eqb, eqb-true, le-leb, leb-true}
-use Rattle.std.specs.Option.{option_eq}
-use Rattle.std.proofs.lemmas.Bool.{cases_lt, cases_eq, lt-leb, ne_eqb, eqb-false, and_parts, not-true}
+use Rattle.std.proofs.Common.{◌≡◌, ℕ, ◌+◌, ◌/◌, ◌%◌, ◌^◌, ◌<◌, ◌≤◌, Bool, true, false, not, ◌&&◌, cond, eqb, ltb, ◌≢◌, List, length, Some, None, Option, sym, refl, ap, ◌∙◌, subst, arith, ltb-true, le-ltb, lt-ltb, eq-eqb, eqb-true, le-leb, leb-true}
+use Rattle.std.proofs.lemmas.Bool.{ne_eqb, eqb-false, and_parts, not-true}
 use Rattle.std.proofs.lemmas.Option.{none-some, same_Some}
-use Rattle.theory.specs.contracts.stratum.StratumPartialEq.TheImpl.{eq-value as equal}
-use Rattle.theory.specs.Strata.{stratum_named}
-use Rattle.theory.specs.Words.{stratum}
-use Rattle.theory.proofs.Homes.{home_whole, home_sub}
-use Rattle.theory.proofs.Plots.{s_high, stratum_1, stratum_2}
-use Rattle.opening.specs.declared.Shape.{Shape}
-use Rattle.opening.specs.Shapes.{layers_of, homes_of, factors_of, stratum_in, home_of}
-use Rattle.opening.proofs.Homes.{home_named}
+use Rattle.theory.proofs.Plots.{s_high}
 use Rattle.finding.specs.declared.begun.Opened.{Opened}
 use Rattle.finding.specs.Walks.{Within, held, is_in_layer, after, next}
 
@@ -71,35 +63,6 @@ module _ (w n1 i c : ℕ) where
 
   pub sub_layer : n1 ≤ i → 2 ^ w ≤ c → is_in_layer w n1 i c ≡ true
   sub_layer l h = rw (le-ltb i n1 l) (le-leb (2 ^ w) c h)
-
--- the same, as the code asks: the home of the factor is the stratum of the word
-module _ (shape : Shape) (i c : ℕ) (within : i < factors_of shape) where
-  abbrev ws : List ℕ
-  ws = layers_of shape
-
-  abbrev asked : Bool
-  asked = option_eq equal.it (home_of shape i) (Some (stratum_in shape c))
-
-  named : (l k : ℕ) → get_or (homes_of shape) i 0 ≡ l → stratum ws c ≡ k → asked ≡ equal.it (stratum_named l) (stratum_named k)
-  named l k home word = ap₂ (λ a b. option_eq equal.it a (Some b)) (home_named shape i within ∙ ap (λ (x : ℕ). Some (stratum_named x)) home) (ap stratum_named word)
-
-  pub layer_asked : asked ≡ is_in_layer shape.w shape.n1 i c
-  layer_asked = go (cases_lt i shape.n1) (cases_eq c 0) (cases_lt c (2 ^ shape.w))
-    where
-      whole : i < shape.n1 → get_or (homes_of shape) i 0 ≡ 1
-      whole h = home_whole shape.n1 shape.n2 i h
-
-      sub : shape.n1 ≤ i → get_or (homes_of shape) i 0 ≡ 2
-      sub h = home_sub shape.n1 shape.n2 i h within
-
-      go : (i < shape.n1) ⊎ (shape.n1 ≤ i) → (c ≡ 0) ⊎ (c ≢ 0) → (c < 2 ^ shape.w) ⊎ (2 ^ shape.w ≤ c) → asked ≡ is_in_layer shape.w shape.n1 i c
-      go (inl h) (inl z) m = named 1 0 (whole h) (ap (stratum ws) z) ∙ sym (rw (lt-ltb i shape.n1 h, eq-eqb c 0 z) refl)
-      go (inl h) (inr n) (inl l) = named 1 1 (whole h) (stratum_1 shape.w shape.s c n l) ∙ sym (whole_layer shape.w shape.n1 i c h n l)
-      go (inl h) (inr n) (inr g) =
-          named 1 2 (whole h) (stratum_2 shape.w shape.s c g) ∙ sym (rw (lt-ltb i shape.n1 h, ne_eqb c 0 n, le-ltb c (2 ^ shape.w) g) refl)
-      go (inr h) (inl z) m = named 2 0 (sub h) (ap (stratum ws) z) ∙ sym (rw (le-ltb i shape.n1 h, lt-leb (2 ^ shape.w) c (omega (arith, pow_pos shape.w))) refl)
-      go (inr h) (inr n) (inl l) = named 2 1 (sub h) (stratum_1 shape.w shape.s c n l) ∙ sym (rw (le-ltb i shape.n1 h, lt-leb (2 ^ shape.w) c l) refl)
-      go (inr h) (inr n) (inr g) = named 2 2 (sub h) (stratum_2 shape.w shape.s c g) ∙ sym (sub_layer shape.w shape.n1 i c h g)
 
 -- no more are open than there are
 pub next_within : (w s n1 : ℕ) (used : List ℕ) (o : Opened) (c : ℕ) (p : Opened) → Within w s o → next w s n1 used o c ≡ Some p → Within w s p

@@ -73,7 +73,11 @@ impl Begun {
         ensures { result ≡ is_in_layer self.now.counts.shape.w self.now.counts.shape.n1 (length (columns_in self.now.counts)) word }
     {
         let shape = self.counts.shape();
-        shape.home(self.counts.columns().len()) == Some(shape.stratum(word))
+        if self.counts.columns().len() < usize::from(shape.n1) {
+            word != 0 && word < shape.plots()
+        } else {
+            shape.plots() <= word
+        }
     }
 
     /// What is open after a column that is standard where this is open; none where it is not.
@@ -104,10 +108,15 @@ impl Begun {
     pub fn next(&self, column: u8) -> Option<Opened>
         ensures { result ≡ next_in self.now.counts self.now.opened column }
     {
-        if !self.is_in_layer(column) || self.counts.columns().contains(&column) {
+        if !self.is_in_layer(column) {
             return None;
         }
-        self.after(column)
+        let opened = self.after(column)?;
+        // Gone through last, since most words fail a test before.
+        if self.counts.columns().contains(&column) {
+            return None;
+        }
+        Some(opened)
     }
 
     /// The same with one more column that may stand next, and what is then open.

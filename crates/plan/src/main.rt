@@ -13,31 +13,24 @@ use std::io::{Read, Write};
 const MOST: usize = MOST_BYTES + 1;
 
 /// Reads standard input to its end, or until `sheet` is full, and tells how many bytes there are.
-// Into a fixed place, since `read_to_end` wants one that grows, and a place from the heap may be refused.
+// Into a fixed place, so that no sheet is refused for want of memory.
 fn read_sheet(rt: &HostRuntime, sheet: &mut [u8]) -> io::Result<usize>
     ensures { IfOk result (λ size. size ≤ length sheet.old) }
 {
-    let mut input = rt.stdin();
-    let mut size = 0;
-    // Each turn but the last reads a byte at least.
-    for _ in 0..MOST {
-        if size >= sheet.len() {
-            break;
-        }
-        let count = input.read(&mut sheet[size..])?;
-        if count == 0 {
-            break;
-        }
-        size += count;
-    }
-    Ok(size)
+    let most = sheet.len();
+    let mut room = sheet;
+    io::copy(&mut rt.stdin().take(most as u64), &mut room)?;
+    Ok(most.saturating_sub(room.len()))
 }
 
 /// Answers a sheet line by line.
 fn answer_sheet(rt: &impl Print, sheet: &[u8]) -> io::Result<()> {
     let mut output = io::writer(rt);
+    let mut buffer = [0; 1024];
     for answer in Session::new(sheet) {
-        output.write_all(answer.text().as_slice())?;
+        if let Ok(size) = answer.put(&mut buffer) {
+            output.write_all(&buffer[..size])?;
+        }
     }
     Ok(())
 }

@@ -1,12 +1,12 @@
 -- What one call gives of what is left. Assumes nothing.
-use Rattle.std.proofs.Common.{◌≡◌, ℕ, suc, ◌+◌, ◌<◌, ◌≤◌, Bool, true, false, cond, not, eqb, leb, List, [], ◌∷◌, length, take, drop, Some, None, Option, MatchOption, unwrap_or, ◌⊎◌, sym, refl, ap, ◌∙◌, ⊎_elim, arith, length-drop, le-leb}
+use Rattle.std.proofs.Common.{◌≡◌, ℕ, suc, ◌+◌, ◌-◌, ◌<◌, ◌≤◌, min, Bool, true, false, cond, not, eqb, leb, List, [], ◌∷◌, length, take, drop, Some, None, Option, sym, refl, ap, ◌∙◌, ⊎_elim, arith, length-drop, le-leb}
 use Rattle.std.specs.Bool.{⊤}
 use Rattle.std.specs.Iterator.{MakesProgress, item_count}
-use Rattle.std.specs.Borrow.{Bor}
 use Rattle.std.specs.List.{slice_range}
 use Rattle.std.proofs.lemmas.List.{drop-drop, drop_all, take_rest}
 use Rattle.std.proofs.lemmas.List.Folds.{length-prefix_len}
 use Rattle.std.proofs.lemmas.Bool.Decides.{nat_tests}
+use Rattle.std.proofs.str.Laws.{order}
 use Rattle.sheet.specs.Cuts.{length_up_to, pieces, words, lines, on_first, placed, numbered}
 use Rattle.sheet.specs.Left.{words_from, lines_left, words_left, GivesLine, GivesWord}
 use Rattle.sheet.specs.declared.reader.Line.{Line}
@@ -35,19 +35,27 @@ one_more x xs ih false =
     let one : 1 + length_up_to 10 xs ≡ suc (length_up_to 10 xs) = omega arith in
     rw (far, one) ih
 
-pub lines_step : (xs : List ℕ) → 0 < length xs → lines xs ≡ take (length_up_to 10 xs) xs ∷ lines (drop (length_up_to 10 xs + 1) xs)
+lines_step : (xs : List ℕ) → 0 < length xs → lines xs ≡ take (length_up_to 10 xs) xs ∷ lines (drop (length_up_to 10 xs + 1) xs)
 lines_step [] h = absurd (omega arith)
 lines_step (x ∷ []) h = one_more x [] refl (eqb x 10)
 lines_step (x ∷ y ∷ ys) h = one_more x (y ∷ ys) (ap (on_first x) (lines_step (y ∷ ys) (omega arith))) (eqb x 10)
 
--- the line at the front of s with its number, and those after it
-pub line_given : (s front s' : List ℕ) (k n : ℕ) → 0 < length s → n ≡ length_up_to 10 s → front ≡ take n s → s' ≡ drop (n + 1) s → numbered (k + 1) (lines s) ≡ (k + 1, front) ∷ numbered (k + 1 + 1) (lines s')
-line_given s front s' k n h e is left = rw (is, left, e) (ap (numbered (k + 1)) (lines_step s h))
+-- past the end nothing is left
+drop_min : (a : ℕ) (s : List ℕ) → drop (min a (length s)) s ≡ drop a s
+drop_min a s = ⊎_elim (λ l. ap (λ n. drop n s) (omega arith)) (λ l. drop_all (min a (length s)) s (omega arith) ∙ sym (drop_all a s l)) (order a (length s))
 
--- what is left past the first byte, if there is one
-pub past_first : (s : List ℕ) (o : Option (Bor (List ℕ))) (d : Bor (List ℕ)) → d.now ≡ [] → MatchOption o ((length s < 1) ⊎ (length s < length s)) (λ x. (1 ≤ length s) × (length s ≤ length s) × (x.now ≡ slice_range s 1 (length s)) × (length x.now + 1 ≡ length s)) → (unwrap_or o d).now ≡ drop 1 s
-past_first s None d e h = e ∙ sym (drop_all 1 s (⊎_elim (λ l. omega arith) (λ l. omega arith) h))
-past_first s (Some x) d e h = h.2 ∙ take_rest s 1
+-- what is left after the line of n bytes at a
+pub line_left : (s : List ℕ) (a n m : ℕ) → m ≡ min (a + n + 1) (length s) → drop m s ≡ drop (n + 1) (drop a s)
+line_left s a n m e =
+    let far : a + n + 1 ≡ a + (n + 1) = omega arith in
+    rw (e, drop_min, far) (sym (drop-drop (n + 1) a s))
+
+-- the line at a, and what is left after it
+pub line_step : (s r : List ℕ) (a n m : ℕ) → a < length s → r ≡ slice_range s a (length s) → n ≡ length_up_to 10 r → m ≡ min (a + n + 1) (length s) → lines (drop a s) ≡ take n r ∷ lines (drop m s)
+line_step s r a n m h is e e2 =
+    let whole : r ≡ drop a s = is ∙ take_rest s a in
+    let same : n ≡ length_up_to 10 (drop a s) = e ∙ ap (length_up_to 10) whole in
+    rw (line_left s a n m e2, whole, same) (lines_step (drop a s) (rw (length-drop a s) (omega arith)))
 
 -- the words of s from a on
 abbrev rest_words : List ℕ → ℕ → List (List ℕ)

@@ -6,13 +6,17 @@ use Rattle.sheet.specs.declared.reader.Reader.{Reader}
 use Rattle.sheet.specs.declared.reader.Line.{Line}
 use Rattle.sheet.specs.declared.token.Part.{Part}
 
+-- the lines of a sheet from the byte `at` on, with their numbers, where `before` lines have come before
+abbrev pub lines_from : ℕ → ℕ → List ℕ → List (ℕ × List ℕ)
+lines_from before at xs = numbered (before + 1) (lines (drop at xs))
+
 -- the words of a line from the byte `at` on, with their columns; past the end there is none
 abbrev pub words_from : ℕ → List ℕ → List (ℕ × List ℕ)
 words_from at xs = placed (at + 1) (cond (nat_le at (length xs)) (words (drop at xs)) [])
 
--- the lines that a reader has still to give, with their numbers: `line` lines have come before
+-- the lines that a reader has still to give, with their numbers
 abbrev pub lines_left : Reader → List (ℕ × List ℕ)
-lines_left r = numbered (r.line + 1) (lines r.rest.now)
+lines_left r = lines_from r.line r.at r.sheet.now
 
 -- the words that a line has still to give, with their columns
 abbrev pub words_left : Line → List (ℕ × List ℕ)
@@ -23,11 +27,12 @@ abbrev pub read_of : {R : Type 0} → (ℕ → List (ℕ × List ℕ) → R) →
 read_of read l = read l.number (words_left l)
 
 -- One call for the next line: the first of the lines left is given whole, with no word read, and those after it are left,
--- from past its line feed on; where no line is left, there is none and nothing changes.
+-- from past its line feed on, of the same sheet; where no line is left, there is none and nothing changes.
 pub record GivesLine (r : Reader) (line : Option Line) (r' : Reader) : Type 0 where
   pub given : YieldsFirstBy (λ (l : Line). (l.number, l.bytes.now)) lines_left r line r'
   pub whole : MatchOption line (r' ≡ r) (λ l. (words_left l ≡ placed 1 (words l.bytes.now)) × (r'.line ≡ l.number))
-  pub sheet : MatchOption line (r'.rest.now ≡ r.rest.now) (λ l. r'.rest.now ≡ drop (length l.bytes.now + 1) r.rest.now)
+  pub sheet : r'.sheet.now ≡ r.sheet.now
+  pub rest : MatchOption line (r' ≡ r) (λ l. drop r'.at r'.sheet.now ≡ drop (length l.bytes.now + 1) (drop r.at r.sheet.now))
 
 -- One call for the next word: the first of the words left is given, with its place, and those after it are left, of the
 -- same line; where no word is left, there is none and nothing changes.

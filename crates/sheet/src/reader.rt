@@ -1,14 +1,16 @@
 //! The reader of a sheet and the lines that it gives. Their methods stand in `walk`.
-ghost use Rattle.std.specs.Prelude.{◌+◌, ◌^◌, ◌<◌, length};
+ghost use Rattle.std.specs.Prelude.{◌≤◌, length};
 
 pub mod walk;
 
 /// Walks over the lines of a lent sheet.
 #[derive(Drop)]
 pub struct Reader<'a> {
-    rest: &'a [u8],
+    sheet: &'a [u8],
+    at: usize,
     line: usize,
-    ghost counted: { line + length rest.now < 2 ^ 64 },
+    ghost within: { at ≤ length sheet.now },
+    ghost counted: { line ≤ at },
 }
 
 /// Walks over the words of one line.

@@ -48,6 +48,10 @@ pub fn add_bytes<const CAP: usize>(text: &mut Few<u8, CAP>, bytes: &[u8])
 pub fn add_number<const CAP: usize>(text: &mut Few<u8, CAP>, n: usize)
     ensures { items text.new ≡ added CAP (items text.old) (decimal n) }
 {
+    // One digit, as most numbers have here, needs no place of its own.
+    if n < 10 {
+        return add_bytes(text, &[b'0' + n as u8]);
+    }
     let mut digits = [0; 20];
     let size = put_number(&mut digits, 0, n);
     add_bytes(text, &digits[..size]);

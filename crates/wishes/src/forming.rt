@@ -77,11 +77,12 @@ pub(crate) fn is_formed(n: usize, wish: Wish) -> bool
     ensures { result ≡ formed n wish }
 {
     match wish {
-        Wish::Clear(e) => e < 1 << n && e.count_ones() == 2,
-        Wish::Apart(e, f) => e < f && is_low(n, e) && is_low(n, f),
+        Wish::Clear(e) if e.count_ones() == 2 => e < 1 << n,
+        Wish::Apart(e, f) if e < f => is_low(n, e) && is_low(n, f),
         Wish::Fine(e) => is_low(n, e),
-        Wish::Word(e) => e < 1 << n && e.count_ones() >= 3,
-        Wish::Least(r) => (3..=10).contains(&r),
+        Wish::Word(e) if e.count_ones() >= 3 => e < 1 << n,
+        Wish::Least(r) if (3..=10).contains(&r) => true,
+        _ => false,
     }
 }
 

@@ -30,11 +30,12 @@ impl<'a> Reader<'a> {
     /// A reader at the start of a sheet.
     pub fn new(sheet: &'a [u8]) -> Reader<'a>
         ensures lines { lines_left result ≡ numbered 1 (lines sheet.now) }
-        ensures sheet { result.rest.now ≡ sheet.now }
+        ensures sheet { result.sheet.now ≡ sheet.now }
         ensures line { result.line ≡ 0 }
     {
         Reader {
-            rest: sheet,
+            sheet,
+            at: 0,
             line: 0,
         }
     }
@@ -49,14 +50,16 @@ impl<'a> Iterator for Reader<'a> {
 
     /// The next line, which ends before the next line feed, or `None` past the last.
     fn next(&mut self) -> Option<Line<'a>> {
-        if self.rest.is_empty() {
+        if self.at >= self.sheet.len() {
             return None;
         }
-        let (bytes, rest) = self.rest.split_at(up_to(self.rest, b'\n'));
-        self.rest = rest.get(1..).unwrap_or(&[]);
+        let rest = &self.sheet[self.at..];
+        let n = up_to(rest, b'\n');
+        // The last line may lack its line feed.
+        self.at = (self.at + n + 1).min(self.sheet.len());
         self.line += 1;
         Some(Line {
-            bytes,
+            bytes: &rest[..n],
             at: 0,
             number: self.line,
         })

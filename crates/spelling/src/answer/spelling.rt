@@ -1,7 +1,7 @@
 //! The text of an answer. It is put together piece by piece, since of a `Display` no contract says that it
 //! succeeds where there is room.
 
-ghost use Rattle.std.specs.Prelude.{◌≡◌, ◌+◌, ◌*◌, ◌<◌, ◌≤◌, ◌++◌, length};
+ghost use Rattle.std.specs.Prelude.{◌≡◌, [], ◌+◌, ◌*◌, ◌<◌, ◌≤◌, ◌++◌, length};
 ghost use Rattle.few.specs.Few.{items};
 ghost use Rattle.key.specs.Questions.{columns_of, layout_of};
 ghost use Rattle.spelling.specs.Spelled.{column_text, columns_text, plan_text, effect_text, effects_text, refused_text, fault_text, answer_text, Put};
@@ -42,24 +42,22 @@ fn put_columns(text: &mut Text, n1: u8, columns: &[u8])
     }
 }
 
-/// `key` and each factor's column.
-fn plan(key: &Key) -> Text
-    ensures { items result ≡ plan_text key.now.shape.n1 (columns_of key.now) }
+/// Begins a text with `key` and each factor's column.
+fn put_plan(text: &mut Text, key: &Key)
+    requires { items text.old ≡ [] }
+    ensures { items text.new ≡ plan_text key.now.shape.n1 (columns_of key.now) }
 {
-    let mut text = Few::new(0);
-    add_bytes(&mut text, b"key");
-    put_columns(&mut text, key.shape().n1, key.columns());
-    add_bytes(&mut text, b"\n");
-    text
+    add_bytes(text, b"key");
+    put_columns(text, key.shape().n1, key.columns());
+    add_bytes(text, b"\n");
 }
 
-/// The rows of a plan.
-fn rows(key: &Key) -> Text
-    ensures { items result ≡ layout_of key.now }
+/// Begins a text with the rows of a plan.
+fn put_rows(text: &mut Text, key: &Key)
+    requires { items text.old ≡ [] }
+    ensures { items text.new ≡ layout_of key.now }
 {
-    let mut text = Few::new(0);
-    add_bytes(&mut text, key.rows().as_slice());
-    text
+    add_bytes(text, key.rows().as_slice());
 }
 
 /// Adds an effect as letters, with a space before it unless it is the first.
@@ -73,60 +71,68 @@ fn put_effect(text: &mut Text, n1: u8, place: usize, effect: u16)
     add_letters(text, n1, effect);
 }
 
-/// Effects as letters, with spaces between them.
-fn chain(effects: &Effects) -> Text
-    ensures { items result ≡ effects_text effects.now.n1 (items effects.now.list) }
+/// Begins a text with effects as letters, with spaces between them.
+fn put_chain(text: &mut Text, effects: &Effects)
+    requires { items text.old ≡ [] }
+    ensures { items text.new ≡ effects_text effects.now.n1 (items effects.now.list) }
 {
-    let mut text = Few::new(0);
     for (place, effect) in effects.list.as_slice().iter().enumerate() {
-        put_effect(&mut text, effects.n1, place, *effect);
+        put_effect(text, effects.n1, place, *effect);
     }
-    add_bytes(&mut text, b"\n");
-    text
+    add_bytes(text, b"\n");
 }
 
-/// `no`, the refusal's number, `line` and the line.
-fn refused(refusal: Refusal, line: usize) -> Text
-    ensures { items result ≡ refused_text refusal line }
+/// Begins a text with `no`, the refusal's number, `line` and the line.
+fn put_refused(text: &mut Text, refusal: Refusal, line: usize)
+    requires { items text.old ≡ [] }
+    ensures { items text.new ≡ refused_text refusal line }
 {
-    let mut text = Few::new(0);
-    add_bytes(&mut text, b"no ");
-    add_number(&mut text, usize::from(refusal.number()));
-    add_bytes(&mut text, b" line ");
-    add_number(&mut text, line);
-    add_bytes(&mut text, b"\n");
-    text
+    add_bytes(text, b"no ");
+    add_number(text, usize::from(refusal.number()));
+    add_bytes(text, b" line ");
+    add_number(text, line);
+    add_bytes(text, b"\n");
 }
 
-/// `bad`, the fault's number, `line`, the line, `column` and the column.
-fn at_fault(fault: SheetFault) -> Text
-    ensures { items result ≡ fault_text fault }
+/// Begins a text with `bad`, the fault's number, `line`, the line, `column` and the column.
+fn put_fault(text: &mut Text, fault: SheetFault)
+    requires { items text.old ≡ [] }
+    ensures { items text.new ≡ fault_text fault }
 {
     let place = fault.place();
-    let mut text = Few::new(0);
-    add_bytes(&mut text, b"bad ");
-    add_number(&mut text, usize::from(fault.number()));
-    add_bytes(&mut text, b" line ");
-    add_number(&mut text, place.line);
-    add_bytes(&mut text, b" column ");
-    add_number(&mut text, place.column);
-    add_bytes(&mut text, b"\n");
-    text
+    add_bytes(text, b"bad ");
+    add_number(text, usize::from(fault.number()));
+    add_bytes(text, b" line ");
+    add_number(text, place.line);
+    add_bytes(text, b" column ");
+    add_number(text, place.column);
+    add_bytes(text, b"\n");
 }
 
 impl Answer {
+    /// Begins a text with the answer's. A text of 1,024 bytes is passed on, since each copy of it costs more than
+    /// most answers do.
+    fn put_text(&self, text: &mut Text)
+        requires { items text.old ≡ [] }
+        ensures { items text.new ≡ answer_text self.now }
+    {
+        match self {
+            Answer::Nothing => {}
+            Answer::Plan(key) => put_plan(text, key),
+            Answer::Rows(key) => put_rows(text, key),
+            Answer::Chain(effects) => put_chain(text, effects),
+            Answer::Refused(refusal, line) => put_refused(text, *refusal, *line),
+            Answer::Fault(fault) => put_fault(text, *fault),
+        }
+    }
+
     /// The text of the answer.
     pub fn text(self) -> Text
         ensures { items result ≡ answer_text self }
     {
-        match self {
-            Answer::Nothing => Few::new(0),
-            Answer::Plan(key) => plan(&key),
-            Answer::Rows(key) => rows(&key),
-            Answer::Chain(effects) => chain(&effects),
-            Answer::Refused(refusal, line) => refused(refusal, line),
-            Answer::Fault(fault) => at_fault(fault),
-        }
+        let mut text = Few::new(0);
+        self.put_text(&mut text);
+        text
     }
 
     /// Writes the text of the answer at the start of a buffer, and tells its length.
@@ -138,7 +144,14 @@ impl Answer {
         if out.len() < ROOM {
             return Err(Refusal::ShortBuffer);
         }
-        let text = self.text();
+        // Of these there is no text to put together.
+        match self {
+            Answer::Nothing => return Ok(0),
+            Answer::Rows(key) => return key.layout(out),
+            _ => {}
+        }
+        let mut text = Text::new(0);
+        self.put_text(&mut text);
         let bytes = text.as_slice();
         out[..bytes.len()].copy_from_slice(bytes);
         Ok(bytes.len())

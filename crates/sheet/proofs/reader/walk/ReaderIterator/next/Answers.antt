@@ -1,20 +1,29 @@
-use Rattle.std.proofs.Common.{◌≡◌, ◌+◌, ◌<◌, length, drop, refl, rules, ap, ◌∙◌}
-use Rattle.std.proofs.lemmas.List.{drop-drop}
-use Rattle.sheet.proofs.Step.{line_given, line_goes, past_first}
+use Rattle.std.proofs.Common.{◌+◌, refl, ap, rules}
+use Rattle.std.proofs.lemmas.List.{drop_all, length-take-le}
+use Rattle.sheet.specs.Cuts.{lines, numbered}
+use Rattle.sheet.proofs.Step.{line_step, line_left, line_goes}
 use Rattle.sheet.proofs.reader.walk.ReaderIterator.next.Goals as goal
 
-pub returns-clause-steps : goal.returns-clause-steps
-returns-clause-steps c =
-    let s = c.args.self.now.rest.now in
-    let n = c.up_to.result in
-    let some : 0 < length s = search rules in
-    let past = past_first c.split_at.result.1.now c.get.result _ refl c.get.ensures.lookup.0 in
-    let left : c.unwrap_or-self.result.now ≡ drop (n + 1) s = ap (λ x. x.now) c.unwrap_or-self.ensures ∙ past ∙ ap (drop 1) c.split_at.ensures.back ∙ drop-drop 1 n s in
+pub returns-then-self-clause-steps : goal.returns-then-self-clause-steps
+returns-then-self-clause-steps c =
+    let none = ap (λ xs. numbered (c.args.self.now.line + 1) (lines xs)) (drop_all _ _ c.if-self.true) in
     record {
-      given = line_given s _ _ _ n some c.up_to.ensures.value c.split_at.ensures.front left;
-      whole = (search rules, refl);
-      sheet = search rules;
+      given = (none, none);
+      whole = refl;
+      sheet = refl;
+      rest = refl;
     }
+
+pub returns-then-self-clause-goes : goal.returns-then-self-clause-goes
+returns-then-self-clause-goes c = line_goes _ _ _ (returns-then-self-clause-steps c)
+
+pub returns-clause-steps : goal.returns-clause-steps
+returns-clause-steps c = record {
+  given = ap (numbered (c.args.self.now.line + 1)) (line_step _ _ _ _ _ c.if-self.false refl c.up_to-n.ensures.value c.min-self.ensures);
+  whole = (search rules, search rules);
+  sheet = search rules;
+  rest = rw (length-take-le c.up_to-n.result _ c.up_to-n.ensures.within) (line_left _ _ _ _ c.min-self.ensures);
+}
 
 pub returns-clause-goes : goal.returns-clause-goes
 returns-clause-goes c = line_goes _ _ _ (returns-clause-steps c)

@@ -4,7 +4,7 @@ use Rattle.few.specs.Few.{items}
 use Rattle.text.proofs.Laws.{added_fits, texts_more, length_texts}
 use Rattle.spelling.specs.Spelled.{effect_text}
 use Rattle.spelling.proofs.Lengths.{effect_le}
-use Rattle.spelling.proofs.answer.spelling.chain.Goals as goal
+use Rattle.spelling.proofs.answer.spelling.put_chain.Goals as goal
 
 pub put_effect-requires : goal.put_effect-requires
 put_effect-requires c =

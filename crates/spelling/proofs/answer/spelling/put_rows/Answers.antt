@@ -1,6 +1,6 @@
 use Rattle.std.proofs.Common.{[], arith}
 use Rattle.text.proofs.Laws.{added_fits}
-use Rattle.spelling.proofs.answer.spelling.rows.Goals as goal
+use Rattle.spelling.proofs.answer.spelling.put_rows.Goals as goal
 
 pub returns : goal.returns
 returns c =

@@ -5,8 +5,8 @@ use Rattle.key.specs.Questions.{columns_of}
 use Rattle.key.proofs.Soundness.{length_columns}
 use Rattle.spelling.specs.Spelled.{columns_text}
 use Rattle.spelling.proofs.Lengths.{columns_le}
-use Rattle.spelling.proofs.answer.spelling.plan.Goals as goal
-use Rattle.spelling.proofs.answer.spelling.plan.Goals.{After-add_bytes}
+use Rattle.spelling.proofs.answer.spelling.put_plan.Goals as goal
+use Rattle.spelling.proofs.answer.spelling.put_plan.Goals.{After-add_bytes}
 
 begun : (c : After-add_bytes) → items c.add_bytes.new.text ≡ codes "key"
 begun c =

@@ -1,7 +1,7 @@
 use Rattle.std.proofs.Common.{[], ◌∷◌, codes, decimal, arith}
 use Rattle.text.proofs.Laws.{added_all}
 use Rattle.spelling.proofs.Lengths.{twenty_digits}
-use Rattle.spelling.proofs.answer.spelling.at_fault.Goals as goal
+use Rattle.spelling.proofs.answer.spelling.put_fault.Goals as goal
 
 pub returns : goal.returns
 returns c =
