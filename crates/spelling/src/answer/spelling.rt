@@ -150,7 +150,7 @@ impl Answer {
             Answer::Rows(key) => return key.layout(out),
             _ => {}
         }
-        let mut text = Text::new(0);
+        let mut text = Few::new(0);
         self.put_text(&mut text);
         let bytes = text.as_slice();
         out[..bytes.len()].copy_from_slice(bytes);
