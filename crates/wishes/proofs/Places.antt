@@ -1,19 +1,15 @@
 -- The places of the wishes that stand.
-use Rattle.std.proofs.Common.{◌≡◌, ℕ, ◌≤◌, true, List, length, Ok, Err, Result, OnOk, OnErr, sym, arith}
-use Rattle.std.specs.Result.{is_ok}
+use Rattle.std.proofs.Common.{◌≡◌, ℕ, ◌≤◌, true, length, arith}
 use Rattle.std.specs.Coded.{Coded-set, coded_bool, le_prop}
 use Rattle.std.proofs.Math.Path.{PathP, to_path_p}
-use Rattle.std.proofs.lemmas.Bool.{false≢true}
 use Rattle.std.proofs.lemmas.List.{length-take-le}
 use Rattle.few.specs.Few.{items}
 use Rattle.few.specs.declared.Few.{Few}
-use Rattle.few.specs.declared.Full.{Full}
 use Rattle.opening.specs.Shapes.{factors_of}
-use Rattle.theory.specs.declared.refusal.Refusal.{Refusal}
 use Rattle.theory.specs.declared.wish.Wish.{Wish}
 use Rattle.wishes.specs.declared.standing.Standing.{Standing}
 use Rattle.wishes.specs.Lists.{all_formed, distinct}
-use Rattle.wishes.specs.Standings.{wishes_in, Changed}
+use Rattle.wishes.specs.Standings.{wishes_in}
 
 -- as many as there are places in use
 pub length_items : {room : ℕ} (wishes : Few Wish room) → length (items wishes) ≡ wishes.size
@@ -43,11 +39,3 @@ same_standing a b s w = λ i. record { shape = s i; wishes = w i; few = few_over
 
     once_over : PathP Once_here a.once b.once
     once_over = to_path_p Once_here (Coded-set coded_bool _ _ _ b.once)
-
--- what adding to the places leaves, granted or refused
-pub changed : (old new : Standing) (xs : List Wish) (pushed : Result Unit Full) (answer : Result Unit Refusal) → new.shape ≡ old.shape
-    → OnOk pushed (wishes_in new ≡ xs) → OnErr pushed (new.wishes ≡ old.wishes) → is_ok answer ≡ is_ok pushed → Changed answer old new xs
-changed old new xs (Ok _) (Ok _) shape more same e = (shape, more)
-changed old new xs (Ok _) (Err _) shape more same e = absurd (false≢true e)
-changed old new xs (Err _) (Ok _) shape more same e = absurd (false≢true (sym e))
-changed old new xs (Err _) (Err _) shape more same e = same_standing new old shape same

@@ -26,6 +26,7 @@ impl Standing {
 
     /// Adds a wish after those that stand; refused, and nothing changed, where it is not formed,
     /// stands already, or twelve stand.
+    #[tactic(auto, using(crate::proofs::Places::same_standing))]
     pub fn add(&mut self, wish: Wish) -> Result<(), Refusal>
         ensures answer { result ≡ adding (factors_of self.old.shape) (wishes_in self.old) wish }
         ensures after { Changed result self.old self.new (wishes_in self.old ++ wish ∷ []) }

@@ -1,13 +1,9 @@
-use Rattle.std.proofs.Common.{sym, refl, ap, ◌∙◌, arith}
+use Rattle.std.proofs.Common.{sym, ap, ◌∙◌, arith}
 use Rattle.opening.specs.Shapes.{factors_of}
 use Rattle.theory.specs.Wishes.{formed}
 use Rattle.wishes.proofs.Listed.{one_more}
-use Rattle.wishes.proofs.Places.{length_items, changed}
+use Rattle.wishes.proofs.Places.{length_items}
 use Rattle.wishes.proofs.standing.Standing.add.Goals as goal
-
-pub returns-clause-after : goal.returns-clause-after
-returns-clause-after c =
-    let pushed = c.push.ensures in changed c.args.self.now _ _ c.push.result c.map_err.result refl pushed.ok pushed.err c.map_err.ensures.variant
 
 pub invariant_of-self : goal.invariant_of-self
 invariant_of-self c =
