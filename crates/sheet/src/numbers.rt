@@ -2,8 +2,6 @@
 ghost use Rattle.std.specs.Prelude.{◌≡◌};
 ghost use Rattle.sheet.specs.Numbers.{number_of, NumbersStand};
 
-use std::str;
-
 /// A number that was printed is read back as itself.
 pub fn numbers_stand()
     ensures { NumbersStand }
@@ -13,10 +11,18 @@ pub fn numbers_stand()
 pub fn number(bytes: &[u8]) -> Option<u16>
     ensures { result ≡ number_of bytes.now }
 {
-    let first = *bytes.first()?;
-    // `parse` would also take a sign, needless zeros and more digits.
-    if bytes.len() > 4 || first == b'+' || first == b'0' && bytes.len() > 1 {
+    if bytes.is_empty() || bytes.len() > 4 {
         return None;
     }
-    str::from_utf8(bytes).ok()?.parse().ok()
+    if bytes[0] == b'0' && bytes.len() > 1 {
+        return None;
+    }
+    let mut n = 0u16;
+    for b in bytes {
+        if *b < b'0' || *b > b'9' {
+            return None;
+        }
+        n = n * 10 + u16::from(*b - b'0');
+    }
+    Some(n)
 }
