@@ -89,15 +89,23 @@ impl Key {
         }
     }
 
+    /// Begins a text with the rows of every whole plot.
+    fn put_plots(&self, text: &mut Text)
+        requires { items text.old ≡ [] }
+        ensures { items text.new ≡ layout_of self.now }
+    {
+        for plot in 0..self.shape.plots() {
+            self.put_plot(text, plot);
+        }
+    }
+
     /// The layout: a row for each subplot of each whole plot, both counted from 1, with the signs of
     /// the factors in its run.
     pub fn rows(&self) -> Few<u8, LONGEST>
         ensures { items result ≡ layout_of self.now }
     {
         let mut text = Few::new(0);
-        for plot in 0..self.shape.plots() {
-            self.put_plot(&mut text, plot);
-        }
+        self.put_plots(&mut text);
         text
     }
 
@@ -107,6 +115,8 @@ impl Key {
         ensures buffer { out.new ≡ filled result (layout_of self.now) out.old }
         ensures bound { length (layout_of self.now) ≤ 544 }
     {
-        fill(out, self.rows().as_slice())
+        let mut text = Few::new(0);
+        self.put_plots(&mut text);
+        fill(out, text.as_slice())
     }
 }

@@ -2,7 +2,7 @@ use Rattle.std.proofs.Common.{[], ◌+◌, ◌*◌, ◌^◌, ◌∙◌, arith}
 use Rattle.key.specs.Questions.{plot_of}
 use Rattle.text.proofs.Laws.{texts_more, length_texts}
 use Rattle.key.proofs.Rows.{plot_le, plots_le}
-use Rattle.key.proofs.Key.rows.Goals as goal
+use Rattle.key.proofs.Key.put_plots.Goals as goal
 
 pub put_plot-requires-clause-room : goal.put_plot-requires-clause-room
 put_plot-requires-clause-room c =
