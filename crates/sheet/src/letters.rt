@@ -71,31 +71,27 @@ pub fn letter(n1: u8, factor: u8) -> u8
     }
 }
 
-// The letters of an effect's factors, `0` for the mean.
-fn letters(n1: u8, effect: u16) -> Few<u8, 16>
-    ensures { items result ≡ letters_of n1 effect }
-{
-    let mut group = Few::new(b' ');
-    if effect == 0 {
-        let _ = group.push(b'0');
-        return group;
-    }
-    // The factors are the numbers themselves, in no list that could be gone through.
-    for factor in 0..16 {
-        if (effect >> factor) % 2 == 1 {
-            let _ = group.push(letter(n1, factor));
-        }
-    }
-    group
-}
-
 /// Writes the letters of an effect's factors into `out` from `at` on, `0` for the mean, and tells where they end.
 /// Where they do not fit, it changes nothing and tells `at`. Of the numbers of factors `n1` alone tells letters apart.
 pub fn put_letters(out: &mut [u8], at: usize, n1: u8, effect: u16) -> usize
     ensures value { result ≡ ended out.old at (letters_of n1 effect) }
     ensures after { out.new ≡ written out.old at (letters_of n1 effect) }
 {
-    put_bytes(out, at, letters(n1, effect).as_slice())
+    if effect == 0 {
+        return put_bytes(out, at, b"0");
+    }
+    let mut group = [0u8; 16];
+    let mut length = 0usize;
+    let mut rest = effect;
+    // The factors are the numbers themselves, in no list that could be gone through.
+    for factor in 0..16u8 {
+        if rest % 2 == 1 {
+            group[length] = letter(n1, factor);
+            length += 1;
+        }
+        rest /= 2;
+    }
+    put_bytes(out, at, &group[0..length])
 }
 
 /// Adds the letters of an effect's factors to a text, `0` for the mean; where they do not fit, it
@@ -103,5 +99,7 @@ pub fn put_letters(out: &mut [u8], at: usize, n1: u8, effect: u16) -> usize
 pub fn add_letters<const CAP: usize>(text: &mut Few<u8, CAP>, n1: u8, effect: u16)
     ensures { items text.new ≡ added CAP (items text.old) (letters_of n1 effect) }
 {
-    add_bytes(text, letters(n1, effect).as_slice());
+    let mut group = [0; 16];
+    let size = put_letters(&mut group, 0, n1, effect);
+    add_bytes(text, &group[..size]);
 }

@@ -1,9 +1,9 @@
 -- How long the pieces of an answer are at most.
-use Rattle.std.proofs.Common.{ℕ, zero, suc, ◌+◌, ◌/◌, ◌%◌, ◌^◌, ◌<◌, ◌*◌, ◌≤◌, Bool, true, false, cond, eqb, List, [], ◌∷◌, length, get_or, codes, decimal, arith, length-append}
+use Rattle.std.proofs.Common.{ℕ, ◌^◌, ◌<◌, ◌*◌, ◌≤◌, Bool, true, false, cond, eqb, List, [], length, get_or, codes, decimal, arith, length-append}
 use Rattle.std.specs.List.{range_with_len, flat_map}
 use Rattle.text.proofs.Laws.{length_texts}
 use Rattle.std.proofs.lemmas.Fmt.{length-decimal-le}
-use Rattle.sheet.specs.Letters.{letter_of, letters_from, letters_of}
+use Rattle.sheet.proofs.Spell.{sixteen_letters}
 use Rattle.spelling.specs.Spelled.{column_text, effect_text}
 
 -- a machine word has at most twenty digits, a byte at most three
@@ -12,24 +12,6 @@ twenty_digits n h = length-decimal-le 20 n (omega arith) (omega arith) (omega ar
 
 pub three_digits : (n : ℕ) → n < 256 → length (decimal n) ≤ 3
 three_digits n h = length-decimal-le 3 n (omega arith) (omega arith) (omega arith)
-
--- a letter for each factor at most
-letters_from_lem : (n1 i m e : ℕ) → length (letters_from n1 i m e) ≤ m
-unfolding letters_from
-letters_from_lem n1 i zero e = omega arith
-letters_from_lem n1 i (suc m) e =
-    omega (arith, length-append (cond (eqb (e % 2) 1) (letter_of n1 i ∷ []) []) (letters_from n1 (i + 1) m (e / 2)), letters_from_lem n1 (i + 1) m (e / 2), one (eqb (e % 2) 1))
-  where
-    one : (b : Bool) → length (cond b (letter_of n1 i ∷ []) []) ≤ 1
-    one true = omega arith
-    one false = omega arith
-
-pub sixteen_letters : (n1 e : ℕ) → length (letters_of n1 e) ≤ 16
-sixteen_letters n1 e = at (eqb e 0)
-  where
-    at : (b : Bool) → length (cond b (codes "0") (letters_from n1 0 16 e)) ≤ 16
-    at true = omega arith
-    at false = letters_from_lem n1 0 16 e
 
 -- a space, unless it is the first
 pub space_le : (first : Bool) → length (cond first [] (codes " ")) ≤ 1

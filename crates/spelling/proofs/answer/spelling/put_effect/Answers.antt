@@ -3,7 +3,8 @@ use Rattle.std.proofs.lemmas.Bool.{eq-eqb, ne_eqb}
 use Rattle.few.specs.Few.{items}
 use Rattle.sheet.specs.Letters.{letters_of}
 use Rattle.text.proofs.Laws.{added_fits}
-use Rattle.spelling.proofs.Lengths.{sixteen_letters, space_le}
+use Rattle.sheet.proofs.Spell.{sixteen_letters}
+use Rattle.spelling.proofs.Lengths.{space_le}
 use Rattle.spelling.proofs.answer.spelling.put_effect.Goals as goal
 use Rattle.spelling.proofs.answer.spelling.put_effect.Goals.{then-place-gt0, else-place-gt0}
 
