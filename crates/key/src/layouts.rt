@@ -60,9 +60,13 @@ impl Key {
         requires { length (items text.old) + factors_of self.now.shape ≤ LONGEST }
         ensures { items text.new ≡ items text.old ++ signs_of self.now run }
     {
-        for column in self.columns() {
-            text.push(mark(sign_of(*column, run))).unwrap();
+        let columns = self.columns();
+        // Added at once: to ask for room for each sign would cost half a layout more.
+        let mut signs = [0; 10];
+        for (factor, column) in columns.iter().enumerate() {
+            signs[factor] = mark(sign_of(*column, run));
         }
+        add_bytes(text, &signs[..columns.len()]);
     }
 
     /// Adds the row of a subplot.
